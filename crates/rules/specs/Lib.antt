@@ -1,0 +1,11 @@
+pub mod Byte
+pub mod Record
+pub mod Registers
+pub mod Counters
+pub mod PortData
+pub mod Patterns
+pub mod Interrupts
+pub mod Step
+pub mod Access
+pub mod Sound
+pub mod Events

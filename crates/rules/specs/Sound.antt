@@ -1,0 +1,142 @@
+-- Paper 01, "Sound means": a named clause for each rule.
+-- Assumes nothing.
+use Prim.Native.Nat.{ℕ}
+use mathlib.Core.Bool.{Bool, true, false, not, _&&_, _||_, Bool·beq, cond}
+use lib.Dec.{eqb, ltb}
+use Rattle.rules.specs.declared.Device.{Device}
+use Rattle.rules.specs.declared.Source.{Source}
+use Rattle.rules.specs.declared.Counter.{Counter}
+use Rattle.rules.specs.declared.Port.{Port}
+use Rattle.rules.specs.declared.Pattern.{Pattern}
+use Rattle.rules.specs.Byte.{bit, every, any}
+use Rattle.rules.specs.Record.{vectorAt, portAt, patternAt, counterAt, sourceAt, resetOf}
+use Rattle.rules.specs.Registers.{reset, portEnabled, counterEnabled, laterConfig, laterPortMode, laterCounterMode}
+use Rattle.rules.specs.PortData.{catchesAt, pathAt}
+use Rattle.rules.specs.Patterns.{isAnd, isOr, onAt}
+
+-- if the first, the second
+abbrev pub only : Bool → Bool → Bool
+only a b = not a || b
+
+-- "unused bits 0": of Port C, which keeps four
+unfoldable pub fourBits : Port → Bool
+fourBits q =
+    ltb (q .polarity) 16 && ltb (q .direction) 16 && ltb (q .special) 16 && ltb (q .output) 16 && ltb (q .outside) 16 && ltb (q .catcher) 16
+
+-- "no code 4 setting"
+unfoldable pub noLater : Device → Bool
+noLater d =
+    not (laterConfig (d .config))
+    && not (laterPortMode (patternAt d 0 .mode)) && not (laterPortMode (patternAt d 1 .mode))
+    && not (laterCounterMode (counterAt d 0 .mode)) && not (laterCounterMode (counterAt d 1 .mode)) && not (laterCounterMode (counterAt d 2 .mode))
+
+-- "ERR only with IP"
+unfoldable pub errOnly : Source → Bool
+errOnly s = only (s .err) (s .ip)
+
+-- "hidden error only with IP and not ERR"
+unfoldable pub hiddenOnly : Source → Bool
+hiddenOnly s = only (s .hidden) (s .ip && not (s .err))
+
+unfoldable pub soundSource : Source → Bool
+soundSource s = errOnly s && hiddenOnly s
+
+-- "CIP only if enabled"
+unfoldable pub cipOnly : Bool → Counter → Bool
+cipOnly enabled c = only (c .cip) enabled
+
+-- "half only with CIP"
+unfoldable pub halfOnly : Counter → Bool
+halfOnly c = only (c .half) (c .cip)
+
+-- "10-15 all 0 for a counter without RCC"
+unfoldable pub frozenOnly : Counter → Bool
+frozenOnly c = only (not (c .rcc)) (eqb (c .frozen) 0)
+
+unfoldable pub soundCounter : Bool → Counter → Bool
+soundCounter enabled c = cipOnly enabled c && halfOnly c && frozenOnly c
+
+-- "catchers only where allowed"
+unfoldable pub catcherOnly : Bool → Port → Bool
+catcherOnly enabled q = every (λ k. only (bit (q .catcher) k) (catchesAt enabled q k))
+
+-- "and set where the path is 1"
+unfoldable pub catcherSet : Bool → Port → ℕ → Bool
+catcherSet enabled q path = every (λ k. only (catchesAt enabled q k && bit path k) (bit (q .catcher) k))
+
+unfoldable pub soundPort : Bool → Port → ℕ → Bool
+soundPort enabled q path = catcherOnly enabled q && catcherSet enabled q path
+
+-- "PMF only in an enabled port in mode 01 or 10 with a bit on"
+unfoldable pub pmfOnly : Bool → Pattern → Bool
+pmfOnly enabled p = only (p .pmf) (enabled && (isAnd p || isOr p) && any (onAt p))
+
+-- ---- two records are the same
+unfoldable pub sameSource : Source → Source → Bool
+sameSource s t =
+    Bool·beq (s .ius) (t .ius) && Bool·beq (s .ie) (t .ie) && Bool·beq (s .ip) (t .ip) && Bool·beq (s .err) (t .err) && Bool·beq (s .hidden) (t .hidden)
+
+unfoldable pub sameCounter : Counter → Counter → Bool
+sameCounter c e =
+    eqb (c .mode) (e .mode) && eqb (c .constant) (e .constant) && eqb (c .count) (e .count) && eqb (c .frozen) (e .frozen)
+    && Bool·beq (c .rcc) (e .rcc) && Bool·beq (c .gcb) (e .gcb) && Bool·beq (c .cip) (e .cip) && Bool·beq (c .half) (e .half)
+
+unfoldable pub samePort : Port → Port → Bool
+samePort q r =
+    eqb (q .polarity) (r .polarity) && eqb (q .direction) (r .direction) && eqb (q .special) (r .special)
+    && eqb (q .output) (r .output) && eqb (q .outside) (r .outside) && eqb (q .catcher) (r .catcher)
+
+unfoldable pub samePattern : Pattern → Pattern → Bool
+samePattern q r =
+    eqb (q .mode) (r .mode) && eqb (q .handshake) (r .handshake) && eqb (q .polarity) (r .polarity)
+    && eqb (q .transition) (r .transition) && eqb (q .mask) (r .mask) && Bool·beq (q .ioe) (r .ioe) && Bool·beq (q .pmf) (r .pmf)
+
+unfoldable pub sameSources : Device → Device → Bool
+sameSources d e =
+    sameSource (sourceAt d 0) (sourceAt e 0) && sameSource (sourceAt d 1) (sourceAt e 1) && sameSource (sourceAt d 2) (sourceAt e 2)
+    && sameSource (sourceAt d 3) (sourceAt e 3) && sameSource (sourceAt d 4) (sourceAt e 4)
+
+unfoldable pub sameCounters : Device → Device → Bool
+sameCounters d e =
+    sameCounter (counterAt d 0) (counterAt e 0) && sameCounter (counterAt d 1) (counterAt e 1) && sameCounter (counterAt d 2) (counterAt e 2)
+
+unfoldable pub samePorts : Device → Device → Bool
+samePorts d e =
+    samePort (portAt d 0) (portAt e 0) && samePort (portAt d 1) (portAt e 1) && samePort (portAt d 2) (portAt e 2)
+
+unfoldable pub samePatterns : Device → Device → Bool
+samePatterns d e = samePattern (patternAt d 0) (patternAt e 0) && samePattern (patternAt d 1) (patternAt e 1)
+
+unfoldable pub sameVectors : Device → Device → Bool
+sameVectors d e =
+    eqb (vectorAt d 0) (vectorAt e 0) && eqb (vectorAt d 1) (vectorAt e 1) && eqb (vectorAt d 2) (vectorAt e 2)
+
+unfoldable pub sameOf : Device → Device → Bool
+sameOf d e =
+    eqb (d .master) (e .master) && eqb (d .config) (e .config) && sameVectors d e && samePorts d e && samePatterns d e
+    && sameCounters d e && sameSources d e && Bool·beq (d .iei) (e .iei) && Bool·beq (d .phase) (e .phase)
+
+-- "under RESET all as reset leaves it"
+unfoldable pub resetOnly : Device → Bool
+resetOnly d = only (reset d) (sameOf d (resetOf d))
+
+-- ---- all the clauses, at every source, counter and port
+unfoldable pub soundSources : Device → Bool
+soundSources d =
+    soundSource (sourceAt d 0) && soundSource (sourceAt d 1) && soundSource (sourceAt d 2) && soundSource (sourceAt d 3) && soundSource (sourceAt d 4)
+
+unfoldable pub soundCounters : Device → Bool
+soundCounters d =
+    soundCounter (counterEnabled d 0) (counterAt d 0) && soundCounter (counterEnabled d 1) (counterAt d 1) && soundCounter (counterEnabled d 2) (counterAt d 2)
+
+unfoldable pub soundPortAt : Device → ℕ → Bool
+soundPortAt d p = soundPort (portEnabled d p) (portAt d p) (pathAt d p)
+
+unfoldable pub soundPorts : Device → Bool
+soundPorts d = fourBits (portAt d 2) && soundPortAt d 0 && soundPortAt d 1 && soundPortAt d 2
+
+unfoldable pub soundPatterns : Device → Bool
+soundPatterns d = pmfOnly (portEnabled d 0) (patternAt d 0) && pmfOnly (portEnabled d 1) (patternAt d 1)
+
+unfoldable pub soundOf : Device → Bool
+soundOf d = noLater d && soundSources d && soundCounters d && soundPorts d && soundPatterns d && resetOnly d

@@ -1,0 +1,115 @@
+-- Paper 01, "Order inside one step", and the clock.
+-- Assumes nothing.
+use Prim.Native.Nat.{ℕ, zero, suc, _+_, _/_, _%_}
+use mathlib.Core.Bool.{Bool, true, false, not, _&&_, _||_, cond}
+use mathlib.Core.List.{List, [], _∷_}
+use lib.Dec.{eqb}
+use lib.ListN.{getD}
+use Rattle.rules.specs.declared.Device.{Device}
+use Rattle.rules.specs.declared.Port.{Port}
+use Rattle.rules.specs.declared.Link.{Link}
+use Rattle.rules.specs.declared.Counted.{Counted}
+use Rattle.rules.specs.declared.Turned.{Turned}
+use Rattle.rules.specs.declared.Stepped.{Stepped}
+use Rattle.rules.specs.declared.Ran.{Ran}
+use Rattle.rules.specs.Byte.{num}
+use Rattle.rules.specs.Record.{portAt, patternAt, counterAt, sourceAt, ofPort, ofCounter, withPorts, withPattern, withCounter, withSource, withPhase}
+use Rattle.rules.specs.Registers.{portEnabled, counterEnabled, lc, reset}
+use Rattle.rules.specs.PortData.{caughtOf, pathAt, seenAt}
+use Rattle.rules.specs.Counters.{outputOf, unlinked, linkOf, reachOf, turnOf}
+use Rattle.rules.specs.Patterns.{matchOf, withPmf}
+use Rattle.rules.specs.Interrupts.{raisedOf}
+
+-- "Lines: CT1 output, count, trigger, gate PB4-PB7; CT2 PB0-PB3; CT3 PC0-PC3. Inputs are path values without catchers":
+-- the four lines of counter i, as D0 to D3
+unfoldable pub linesAt : Device → ℕ → ℕ
+linesAt d i = cond (eqb i 0) (pathAt d 1 / 16) (cond (eqb i 1) (pathAt d 1 % 16) (pathAt d 2 % 16))
+
+-- a source to which an event comes, or does not
+unfoldable pub eventAt : Device → ℕ → Bool → Bool → Device
+eventAt d k hides happens = cond happens (withSource d k (raisedOf hides (sourceAt d k))) d
+
+-- what a counter's turn leaves: the counter, and its source after a terminal
+unfoldable pub turned : Device → ℕ → Counted → Turned
+turned d i r =
+    record {
+      device = eventAt (withCounter d i (r .counter)) (ofCounter i) true (r .terminal);
+      terminal = r .terminal;
+    }
+
+-- (b), (c), (d): the turn of counter i in the device d; "edges compare before the step with after (a)"
+unfoldable pub counterTurn : Link → Bool → ℕ → ℕ → ℕ → Device → Turned
+counterTurn link timer were are i d =
+    turned d i (turnOf (counterEnabled d i) (reachOf (counterAt d i) link timer were are) (counterAt d i))
+
+-- (e): the catchers of a port
+abbrev pub withCatcher : Port → ℕ → Port
+withCatcher q n =
+    record {
+      polarity = q .polarity;
+      direction = q .direction;
+      special = q .special;
+      output = q .output;
+      outside = q .outside;
+      catcher = n;
+    }
+
+unfoldable pub caughtAt : Device → ℕ → Port
+caughtAt d p = withCatcher (portAt d p) (caughtOf (portEnabled d p) (portAt d p) (pathAt d p))
+
+unfoldable pub catchers : Device → Device
+catchers d = withPorts d (caughtAt d 0 ∷ caughtAt d 1 ∷ caughtAt d 2 ∷ [])
+
+-- (f): the pattern of port p. "PMF is the last step's match. No-match to match is a port event."
+unfoldable pub matchedBy : ℕ → Bool → Device → Device
+matchedBy p matches d =
+    eventAt (withPattern d p (withPmf (patternAt d p) matches)) (ofPort p) (patternAt d p .ioe) (matches && not (patternAt d p .pmf))
+
+-- "edges compare before the step with after (e)"
+unfoldable pub patternTurn : ℕ → ℕ → Device → Device
+patternTurn p before d = matchedBy p (matchOf (portEnabled d p) (patternAt d p) before (seenAt d p)) d
+
+-- (e) and (f), with what A and B showed before the step
+unfoldable pub settled : ℕ → ℕ → Device → Device
+settled beforeA beforeB d = patternTurn 1 beforeB (patternTurn 0 beforeA (catchers d))
+
+-- "A step is one accepted W, one P, or one timer clock: (a) the direct effect; (b) CT1; (c) CT2; (d) CT3; (e) catchers;
+-- (f) patterns.": from the record before the step and the one after (a)
+unfoldable pub stepOf : Bool → Device → Device → Stepped
+stepOf timer d0 d1 =
+    let b = counterTurn unlinked timer (linesAt d0 0) (linesAt d1 0) 0 d1 in
+    let link = linkOf (lc d1) (outputOf (counterAt d0 0)) (outputOf (counterAt (b .device) 0)) in
+    let c = counterTurn link timer (linesAt d0 1) (linesAt d1 1) 1 (b .device) in
+    let d = counterTurn unlinked timer (linesAt d0 2) (linesAt d1 2) 2 (c .device) in
+    record {
+      device = settled (seenAt d0 0) (seenAt d0 1) (d .device);
+      terminals = b .terminal ∷ c .terminal ∷ d .terminal ∷ [];
+    }
+
+-- ---- the clock
+-- terminals added to the counts of them
+abbrev pub added : List ℕ → List Bool → ℕ → ℕ
+added ns ts i = getD ns i 0 + num (getD ts i false)
+
+unfoldable pub counted : List ℕ → Stepped → Ran
+counted ns s =
+    record {
+      device = s .device;
+      terminals = added ns (s .terminals) 0 ∷ added ns (s .terminals) 1 ∷ added ns (s .terminals) 2 ∷ [];
+    }
+
+-- "PCLK flips a phase bit; each second clock, as phase returns to 0, is a timer clock." Under RESET "T changes nothing".
+unfoldable pub clockOf : Ran → Ran
+clockOf s =
+    cond (reset (s .device)) s
+    (cond (s .device .phase) (counted (s .terminals) (stepOf true (s .device) (withPhase (s .device) false)))
+    (record { device = withPhase (s .device) true; terminals = s .terminals }))
+
+-- f, n times
+unfoldable pub iterate : {A : Type 0} → ℕ → (A → A) → A → A
+iterate zero f a = a
+iterate (suc n) f a = f (iterate n f a)
+
+-- "T n: n PCLK clocks."
+unfoldable pub ranOf : ℕ → Device → Ran
+ranOf n d = iterate n clockOf (record { device = d; terminals = 0 ∷ 0 ∷ 0 ∷ [] })

@@ -1,0 +1,226 @@
+// The record of a Z8036, its parts, and what goes in and comes out of an event, in the names of paper 01.
+// The rules over them are in specs/, in the paper's words.
+ghost use mathlib.Core.Path.{_≡_};
+ghost use Rattle.rules.specs.Record.{freshOf, imageLen, registerCount};
+
+// One of the five interrupt sources: what its command register shows, and the hidden error, which none does.
+pub struct Source {
+    pub ius: bool,
+    pub ie: bool,
+    pub ip: bool,
+    pub err: bool,
+    pub hidden: bool,
+}
+
+// One of the three counter/timers. `frozen` is what 10H-15H read while RCC is 1.
+pub struct Counter {
+    pub mode: u8,
+    pub constant: u16,
+    pub count: u16,
+    pub frozen: u16,
+    pub rcc: bool,
+    pub gcb: bool,
+    pub cip: bool,
+    pub half: bool,
+}
+
+// The data of one of the ports A, B and C: three settings, the output register, the outside levels, the catchers.
+pub struct Port {
+    pub polarity: u8,
+    pub direction: u8,
+    pub special: u8,
+    pub output: u8,
+    pub outside: u8,
+    pub catcher: u8,
+}
+
+// What ports A and B have and C has not: mode, handshake (stored only), pattern, IOE and PMF.
+pub struct Pattern {
+    pub mode: u8,
+    pub handshake: u8,
+    pub polarity: u8,
+    pub transition: u8,
+    pub mask: u8,
+    pub ioe: bool,
+    pub pmf: bool,
+}
+
+// The device. `vectors` are A, B, CT; `ports` A, B, C; `patterns` A, B; `counters` 1, 2, 3;
+// `sources` stand in their order of priority: CT3, A, CT2, B, CT1.
+pub struct Device {
+    pub master: u8,
+    pub config: u8,
+    pub vectors: [u8; 3],
+    pub ports: [Port; 3],
+    pub patterns: [Pattern; 2],
+    pub counters: [Counter; 3],
+    pub sources: [Source; 5],
+    pub iei: bool,
+    pub phase: bool,
+}
+
+impl Device {
+    pub const IMAGE_LEN: usize = 84;
+
+    pub const REGISTERS: usize = 48;
+
+    // The fresh device: reset, outside pins 0, IEI 1.
+    pub fn fresh() -> Self
+        ensures { λ r. ⌜ r ≡ freshOf ⌝ }
+    {
+        let port = Port {
+            polarity: 0,
+            direction: 0,
+            special: 0,
+            output: 0,
+            outside: 0,
+            catcher: 0,
+        };
+        let pattern = Pattern {
+            mode: 0,
+            handshake: 0,
+            polarity: 0,
+            transition: 0,
+            mask: 0,
+            ioe: false,
+            pmf: false,
+        };
+        let counter = Counter {
+            mode: 0,
+            constant: 0,
+            count: 0,
+            frozen: 0,
+            rcc: false,
+            gcb: false,
+            cip: false,
+            half: false,
+        };
+        let source = Source {
+            ius: false,
+            ie: false,
+            ip: false,
+            err: false,
+            hidden: false,
+        };
+        Device {
+            master: 1,
+            config: 0,
+            vectors: [0; 3],
+            ports: [port, port, port],
+            patterns: [pattern, pattern],
+            counters: [counter, counter, counter],
+            sources: [source, source, source, source, source],
+            iei: true,
+            phase: false,
+        }
+    }
+
+    // The constants' values, for those who know them by the definitions.
+    pub fn image_len() -> usize
+        ensures { λ r. ⌜ r ≡ imageLen ⌝ }
+    {
+        Device::IMAGE_LEN
+    }
+
+    pub fn registers() -> usize
+        ensures { λ r. ⌜ r ≡ registerCount ⌝ }
+    {
+        Device::REGISTERS
+    }
+}
+
+// A kind and three numbers; a kind ignores those that it does not use.
+pub struct Event {
+    pub kind: u32,
+    pub a: u32,
+    pub b: u32,
+    pub c: u32,
+}
+
+// The answer to an event. `terminals` are the terminal counts of counters 1, 2, 3.
+pub struct Answer {
+    pub code: u8,
+    pub value: u8,
+    pub a: u8,
+    pub b: u8,
+    pub c: u8,
+    pub int: bool,
+    pub ieo: bool,
+    pub terminals: [u32; 3],
+}
+
+// What an event hands back.
+pub struct Outcome {
+    pub device: Device,
+    pub answer: Answer,
+}
+
+// The kind of a register. The number is the port's (A, B, C), the counter's or the vector's place;
+// of a word's two registers the bool tells the high byte.
+pub enum Kind {
+    Master,
+    Config,
+    Vector(usize),
+    Polarity(usize),
+    Direction(usize),
+    Special(usize),
+    PortCommand(usize),
+    CounterCommand(usize),
+    Data(usize),
+    Current(usize, bool),
+    Constant(usize, bool),
+    CounterMode(usize),
+    CurrentVector,
+    PortMode(usize),
+    Handshake(usize),
+    PatternPolarity(usize),
+    Transition(usize),
+    Mask(usize),
+    Absent,
+}
+
+// A counter after its turn in a step, and whether it was terminal.
+pub struct Counted {
+    pub counter: Counter,
+    pub terminal: bool,
+}
+
+// What CT1's output does to CT2: a trigger, a gate, and whether it is the only count source and counts.
+pub struct Link {
+    pub trigger: bool,
+    pub gate: bool,
+    pub only: bool,
+    pub count: bool,
+}
+
+// What reaches a counter in a step: a trigger, an open gate, a count.
+pub struct Reach {
+    pub trigger: bool,
+    pub gate: bool,
+    pub count: bool,
+}
+
+// A device in the middle of a step, after one counter's turn, and whether that was terminal.
+pub struct Turned {
+    pub device: Device,
+    pub terminal: bool,
+}
+
+// A device after a step, and which of the counters 1, 2, 3 were terminal.
+pub struct Stepped {
+    pub device: Device,
+    pub terminals: [bool; 3],
+}
+
+// A device after some clocks, and the terminal counts of counters 1, 2, 3 in them.
+pub struct Ran {
+    pub device: Device,
+    pub terminals: [u32; 3],
+}
+
+// What an accepted event does: the record, the value and the terminal counts.
+pub struct Done {
+    pub device: Device,
+    pub value: u8,
+    pub terminals: [u32; 3],
+}
