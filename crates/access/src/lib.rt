@@ -23,7 +23,7 @@ pub fn read(d: Device, k: Kind) -> u8
     match k {
         Kind::Master => d.master,
         Kind::Config => d.config,
-        Kind::Vector(v) => device::vector_read(d, v),
+        Kind::Vector(v) => interrupts::vector_read(d, v),
         Kind::Polarity(p) => d.ports[p].polarity,
         Kind::Direction(p) => d.ports[p].direction,
         Kind::Special(p) => d.ports[p].special,
@@ -33,7 +33,7 @@ pub fn read(d: Device, k: Kind) -> u8
         Kind::Current(i, high) => bits::byte_in(high, counters::show(d.counters[i])),
         Kind::Constant(i, high) => bits::byte_in(high, d.counters[i].constant),
         Kind::CounterMode(i) => d.counters[i].mode,
-        Kind::CurrentVector => device::current_vector(d),
+        Kind::CurrentVector => interrupts::current_vector(d),
         Kind::PortMode(p) => d.patterns[p].mode,
         Kind::Handshake(p) => d.patterns[p].handshake,
         Kind::PatternPolarity(p) => d.patterns[p].polarity,

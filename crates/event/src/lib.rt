@@ -20,8 +20,8 @@ fn outcome(code: u8, r: Done) -> Outcome {
             a: device::pins_at(d, 0),
             b: device::pins_at(d, 1),
             c: device::pins_at(d, 2),
-            int: device::int(d),
-            ieo: device::ieo(d),
+            int: interrupts::int(d),
+            ieo: interrupts::ieo(d),
             terminals: n,
         },
     }
@@ -117,10 +117,10 @@ fn on_clocks(d: Device, n: u32) -> Outcome {
 }
 
 fn on_acknowledge(d: Device) -> Outcome {
-    let k = device::requester_of(d);
+    let k = interrupts::requester_of(d);
     if k < 5 {
         let s = sources::serve(d.sources[k]);
-        let v = device::acknowledge_by(d, k);
+        let v = interrupts::acknowledge_by(d, k);
         let mut e = d;
         e.sources[k] = s;
         return accepted(e, v);
