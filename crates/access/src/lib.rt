@@ -60,7 +60,7 @@ pub fn after_read(d: Device, k: Kind) -> Device
 
 fn write_master(d: Device, b: u8) -> Device {
     if b % 2 == 1 {
-        return sound::reset(d);
+        return record::reset(d);
     }
     let mut e = d;
     e.master = b;

@@ -2,14 +2,14 @@
 -- Assumes nothing.
 use Prim.Native.Nat.{ℕ, zero, suc, _+_, _*_, _/_, _%_, _^_, _<_}
 use mathlib.Core.Path.{_≡_, refl, sym, ap, subst, _∙_}
-use mathlib.Core.Bool.{Bool, true, false, _&&_, _||_, Bool·beq}
+use mathlib.Core.Bool.{Bool, true, false, not, _&&_, _||_, Bool·beq}
 use mathlib.Core.Logic.{⊎-elim}
 use native.Mathlib.Nat.{mod-lt, eq-or-lt-of-le, le-of-suc-le-suc}
 use native.Mathlib.Omega.{arith}
 use lib.Dec.{T, eqb, ltb, lit<, eqb→eq, ltb→lt}
-use lib.Bits.{bitAnd, bitOr, bitXor, and-shr, or-shr, xor-shr, and-mod, or-mod, xor-mod}
-use Rattle.bits.proofs.Truth.{rows, all8, same}
-use Rattle.rules.specs.Byte.{bit, num, byteOf, differs}
+use lib.Bits.{bitAnd, bitOr, bitXor, and-lt, xor-lt, and-shr, or-shr, xor-shr, and-mod, or-mod, xor-mod}
+use Rattle.bits.proofs.Truth.{rows, all2, all8, same}
+use Rattle.rules.specs.Byte.{bit, num, byteOf, differs, every, any}
 
 -- what holds at 0 and 1 holds below 2
 pub below2 : (P : ℕ → Type 0) → P 0 → P 1 → (m : ℕ) → m < 2 → P m
@@ -124,3 +124,29 @@ module _ (f : ℕ → Bool) where
   bit-byte (suc (suc (suc (suc (suc (suc zero)))))) l = at-bit 6 (λ a b c d e f g h. g) tt
   bit-byte (suc (suc (suc (suc (suc (suc (suc zero))))))) l = at-bit 7 (λ a b c d e f g h. h) tt
   bit-byte (suc (suc (suc (suc (suc (suc (suc (suc k)))))))) l = absurd (omega arith)
+
+-- ---- a byte that is not 0 has a bit; one whose bits are what fails is 0 where nothing fails
+pub nonzero : (f : ℕ → Bool) → not (eqb (byteOf f) 0) ≡ any f
+unfolding byteOf any
+nonzero f =
+    same _ _
+    (all8 (λ a b c d e f g h. Bool·beq (not (eqb (byte8 a b c d e f g h) 0)) (a || b || c || d || e || f || g || h)) tt (f 0) (f 1) (f 2) (f 3) (f 4) (f 5) (f 6) (f 7))
+
+pub is-zero : (f : ℕ → Bool) → eqb (byteOf (λ k. not (f k))) 0 ≡ every f
+unfolding byteOf every
+is-zero f =
+    same _ _
+    (all8 (λ a b c d e f g h. Bool·beq (eqb (byte8 (not a) (not b) (not c) (not d) (not e) (not f) (not g) (not h)) 0) (a && b && c && d && e && f && g && h)) tt
+    (f 0) (f 1) (f 2) (f 3) (f 4) (f 5) (f 6) (f 7))
+
+missed : (a b : Bool) → (a && differs b true) ≡ not (not a || b)
+missed a b = same _ _ (all2 (λ a b. Bool·beq (a && differs b true) (not (not a || b))) tt a b)
+
+-- no bit of x outside y: at every bit, if x then y
+pub inside : (x y : ℕ) (f : ℕ → Bool) → x < 256 → y < 256 → ((k : ℕ) → k < 8 → (not (bit x k) || bit y k) ≡ f k)
+    → eqb (bitAnd x (bitXor y 255)) 0 ≡ every f
+inside x y f hx hy g =
+    ap (λ (n : ℕ). eqb n 0)
+    (by-bits _ (λ k. not (f k)) (and-lt 8 _ _ hx (xor-lt 8 _ _ hy (lit< tt)))
+    (λ k h. simp (bit-and, bit-xor, ones k h) (missed (bit x k) (bit y k) ∙ ap not (g k h))))
+    ∙ is-zero f

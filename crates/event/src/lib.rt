@@ -140,7 +140,7 @@ fn on_iei(d: Device, v: u32) -> Outcome {
 fn sound_event(d: Device, e: Event) -> Outcome {
     let k = e.kind;
     match k {
-        0 => accepted(sound::reset(d), 0),
+        0 => accepted(record::reset(d), 0),
         1 => on_write(d, e.a, e.b),
         2 => on_read(d, e.a),
         3 => on_pins(d, e.a, e.b, e.c),

@@ -1,19 +1,26 @@
 // One port: its pins, path values, catchers and data, by masks over the whole byte; and its pattern.
 ghost use mathlib.Core.Path.{_≡_};
 ghost use mathlib.Core.Bool.{cond};
-ghost use Rattle.rules.specs.PortData.{pinsOf, pathOf, caughtOf, seenOf, levelOf, standing, writtenData};
-ghost use Rattle.rules.specs.Patterns.{andMatch, orMatch, matchOf};
+ghost use lib.Dec.{eqb};
+ghost use Rattle.rules.specs.Byte.{byteOf};
+ghost use Rattle.rules.specs.PortData.{pinsOf, pathOf, catchesAt, caughtOf, seenOf, levelOf, standing, unprotected, writtenData};
+ghost use Rattle.rules.specs.Patterns.{onAt, hitAt, andMatch, orMatch, matchOf};
+ghost use Rattle.rules.specs.Sound.{soundPort, pmfOnly};
 use rules::Counter;
 use rules::Pattern;
 use rules::Port;
 
-// 255 or 0: a bit at all eight places.
-fn spread(on: bool) -> u8 {
+// A bit at all eight places: 255 or 0.
+fn spread(on: bool) -> u8
+    ensures { λ r. ⌜ r ≡ byteOf (λ k. on) ⌝ }
+{
     if on { 255 } else { 0 }
 }
 
 // The bits that have a catcher.
-fn places(enabled: bool, q: Port) -> u8 {
+fn places(enabled: bool, q: Port) -> u8
+    ensures { λ r. ⌜ r ≡ byteOf (catchesAt enabled q) ⌝ }
+{
     spread(enabled) & q.direction & q.special
 }
 
@@ -50,12 +57,19 @@ pub fn level(q: Port, pins: u8) -> u8
     pins ^ q.polarity
 }
 
+// D4 or D0 alone.
+fn place(high: bool) -> u8
+    ensures { λ r. ⌜ r ≡ byteOf (λ j. eqb j (cond high 4 0)) ⌝ }
+{
+    if high { 16 } else { 1 }
+}
+
 // The byte x with the counter's output at D4 or D0, where the output is enabled.
 pub fn stand(c: Counter, high: bool, x: u8) -> u8
     ensures { λ r. ⌜ r ≡ standing c (cond high 4 0) x ⌝ }
 {
-    let w = if high { 16 } else { 1 };
     if c.mode / 64 % 2 == 1 {
+        let w = place(high);
         let on = counters::output(c);
         return (x & (w ^ 255)) | (spread(on) & w);
     }
@@ -63,7 +77,9 @@ pub fn stand(c: Counter, high: bool, x: u8) -> u8
 }
 
 // The bits of a data write that are not protected.
-fn opened(p: usize, b: u8) -> u8 {
+fn opened(p: usize, b: u8) -> u8
+    ensures { λ r. ⌜ r ≡ byteOf (unprotected p b) ⌝ }
+{
     if p == 2 {
         return ((b / 16) ^ 255) & 15;
     }
@@ -82,11 +98,17 @@ pub fn put(q: Port, p: usize, b: u8) -> Port
     e
 }
 
-fn on(p: Pattern) -> u8 {
+// The bits that are on.
+fn on(p: Pattern) -> u8
+    ensures { λ r. ⌜ r ≡ byteOf (onAt p) ⌝ }
+{
     p.mask | p.transition
 }
 
-fn hits(p: Pattern, before: u8, after: u8) -> u8 {
+// The bits whose condition holds.
+fn hits(p: Pattern, before: u8, after: u8) -> u8
+    ensures { λ r. ⌜ r ≡ byteOf (hitAt p before after) ⌝ }
+{
     let level = (after ^ p.polarity) ^ 255;
     let edges = (before ^ after) & p.transition;
     (level & p.mask & (p.transition ^ 255)) | (edges & (p.mask ^ 255)) | (edges & p.mask & level)
@@ -113,4 +135,21 @@ pub fn matches(enabled: bool, p: Pattern, before: u8, after: u8) -> bool
     let all = and_match(p, before, after);
     let some = or_match(p, before, after);
     enabled & (((m == 1) & all) | ((m == 2) & some))
+}
+
+// A catcher only where a bit has one, and set where the path value is 1.
+pub fn sound_port(enabled: bool, q: Port, path: u8) -> bool
+    ensures { λ r. ⌜ r ≡ soundPort enabled q path ⌝ }
+{
+    let m = places(enabled, q);
+    (q.catcher & (m ^ 255) == 0) & (m & path & (q.catcher ^ 255) == 0)
+}
+
+// PMF only in an enabled port in AND or OR with a bit on.
+pub fn pmf_only(enabled: bool, p: Pattern) -> bool
+    ensures { λ r. ⌜ r ≡ pmfOnly enabled p ⌝ }
+{
+    let m = p.mode / 2 % 4;
+    let o = on(p);
+    !p.pmf | (enabled & ((m == 1) | (m == 2)) & (o != 0))
 }
