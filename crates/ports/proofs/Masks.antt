@@ -11,9 +11,10 @@ use Rattle.rules.specs.declared.Port.{Port}
 use Rattle.rules.specs.Counters.{outputEnabled, outputOf}
 use Rattle.rules.specs.PortData.{pinBit, pathBit, catches, caughtBit, seenBit, standing, outputBit, clearedBit, putOf}
 use Rattle.rules.specs.Patterns.{onBit, hitBit}
-use Rattle.bits.proofs.Truth.{all2, all3, all4, all5, all6, same}
+use Rattle.bits.proofs.Truth.{all3, all4, all5, all6, same}
 use Rattle.bits.proofs.Laws.{bit-and, bit-or, bit-xor, ones, by-bits, below, bit-byte, byte-lt, inside}
 
+-- the bits that have a catcher, from the port's enable, direction and special
 pub places-bits : (e : Bool) (i s : ℕ) → i < 256 → s < 256
     → bitAnd (bitAnd (byteOf (λ k. e)) i) s ≡ byteOf (λ k. catches e (bit i k) (bit s k))
 unfolding catches
@@ -99,7 +100,7 @@ opened-bits b h =
 abbrev through : (ℕ → Bool) → ℕ → ℕ
 through f i = bitAnd (byteOf f) (bitXor i 255)
 
-pub output-bits : (f : ℕ → Bool) (i b o : ℕ) → i < 256 → b < 256 → o < 256
+output-bits : (f : ℕ → Bool) (i b o : ℕ) → i < 256 → b < 256 → o < 256
     → bitOr (bitAnd b (through f i)) (bitAnd o (bitXor (through f i) 255)) ≡ byteOf (λ k. outputBit (f k) (bit i k) (bit b k) (bit o k))
 unfolding outputBit
 output-bits f i b o hi hb ho =
@@ -113,7 +114,7 @@ output-bits f i b o hi hb ho =
     Bool·beq ((b && t) || (o && differs t true)) (outputBit m i b o))
     tt (f k) (bit i k) (bit b k) (bit o k))))
 
-pub cleared-bits : (f : ℕ → Bool) (b c : ℕ) → b < 256 → c < 256
+cleared-bits : (f : ℕ → Bool) (b c : ℕ) → b < 256 → c < 256
     → bitAnd c (bitXor (bitAnd (byteOf f) (bitXor b 255)) 255) ≡ byteOf (λ k. clearedBit (f k) (bit b k) (bit c k))
 unfolding clearedBit
 cleared-bits f b c hb hc =
@@ -125,13 +126,13 @@ cleared-bits f b c hb hc =
 
 pub put-bits : (f : ℕ → Bool) (q : Port) (b : ℕ) → q .direction < 256 → q .output < 256 → q .catcher < 256 → b < 256
     → record {
-        polarity = q .polarity;
-        direction = q .direction;
-        special = q .special;
-        output = bitOr (bitAnd b (through f (q .direction))) (bitAnd (q .output) (bitXor (through f (q .direction)) 255));
-        outside = q .outside;
-        catcher = bitAnd (q .catcher) (bitXor (bitAnd (byteOf f) (bitXor b 255)) 255);
-      }
+      polarity = q .polarity;
+      direction = q .direction;
+      special = q .special;
+      output = bitOr (bitAnd b (through f (q .direction))) (bitAnd (q .output) (bitXor (through f (q .direction)) 255));
+      outside = q .outside;
+      catcher = bitAnd (q .catcher) (bitXor (bitAnd (byteOf f) (bitXor b 255)) 255);
+    }
     ≡ putOf q f b
 unfolding putOf
 put-bits f q b hi ho hc hb = simp (output-bits f (q .direction) b (q .output) hi hb ho, cleared-bits f b (q .catcher) hb hc)
@@ -172,6 +173,7 @@ pub sound-bits : (f : ℕ → Bool) (c x : ℕ) → c < 256 → x < 256
     → (eqb (bitAnd c (bitXor (byteOf f) 255)) 0 && eqb (bitAnd (bitAnd (byteOf f) x) (bitXor c 255)) 0)
     ≡ (every (λ k. not (bit c k) || f k) && every (λ k. not (f k && bit x k) || bit c k))
 sound-bits f c x hc hx =
-    simp
-    (inside c (byteOf f) (λ k. not (bit c k) || f k) hc (byte-lt f) (λ k h. simp (bit-byte f k h)),
-    inside (bitAnd (byteOf f) x) c (λ k. not (f k && bit x k) || bit c k) (and-lt 8 _ _ (byte-lt f) hx) hc (λ k h. simp (bit-and, bit-byte f k h)))
+    simp (
+      inside c (byteOf f) (λ k. not (bit c k) || f k) hc (byte-lt f) (λ k h. simp (bit-byte f k h)),
+      inside (bitAnd (byteOf f) x) c (λ k. not (f k && bit x k) || bit c k) (and-lt 8 _ _ (byte-lt f) hx) hc (λ k h. simp (bit-and, bit-byte f k h)),
+    )

@@ -1,8 +1,9 @@
 // One step of a device, (a) to (f), and one PCLK clock.
 ghost use mathlib.Core.Path.{_≡_};
-ghost use Prim.Native.Nat.{_<_};
-ghost use lib.ListN.{getD};
+ghost use Prim.Native.Nat.{_<_, _+_};
+ghost use Rattle.rules.specs.Byte.{num};
 ghost use Rattle.rules.specs.Step.{eventAt, turned, counterTurn, catchers, caughtAt, matchedBy, patternTurn, settled, stepOf, counted, clockOf};
+ghost use Rattle.step.specs.Room.{Room};
 use rules::Counted;
 use rules::Counter;
 use rules::Device;
@@ -87,10 +88,10 @@ fn pattern_turn(p: usize, before: u8, d: Device) -> Device
 }
 
 // Catchers and patterns.
-fn settle(before_a: u8, before_b: u8, d: Device) -> Device
-    ensures { λ r. ⌜ r ≡ settled before_a before_b d ⌝ }
+fn settle(was_a: u8, was_b: u8, d: Device) -> Device
+    ensures { λ r. ⌜ r ≡ settled «was_a» «was_b» d ⌝ }
 {
-    pattern_turn(1, before_b, pattern_turn(0, before_a, catch_all(d)))
+    pattern_turn(1, was_b, pattern_turn(0, was_a, catch_all(d)))
 }
 
 // One step, from the record before it and the one after (a).
@@ -114,31 +115,48 @@ pub fn step(timer: bool, d0: Device, d1: Device) -> Stepped
     }
 }
 
+// One terminal count more, if there was one.
 fn add(n: u32, t: bool) -> u32
     requires { ⌜ n < 4294967295 ⌝ }
+    ensures { λ r. ⌜ r ≡ n + num t ⌝ }
 {
-    if t { n + 1 } else { n }
+    if t {
+        return n + 1;
+    }
+    n
+}
+
+// The terminal counts so far, with those of a step.
+fn count(ns: [u32; 3], s: Stepped) -> Ran
+    requires { ⌜ Room ns ⌝ }
+    ensures { λ r. ⌜ r ≡ counted ns s ⌝ }
+{
+    let t = s.terminals;
+    let d = s.device;
+    Ran {
+        device: d,
+        terminals: [add(ns[0], t[0]), add(ns[1], t[1]), add(ns[2], t[2])],
+    }
 }
 
 // One PCLK clock, with the terminal counts so far.
 pub fn clock(s: Ran) -> Ran
+    requires { ⌜ Room (s .terminals) ⌝ }
+    ensures { λ r. ⌜ r ≡ clockOf s ⌝ }
 {
     let d = s.device;
+    let ns = s.terminals;
     if d.master % 2 == 1 {
         return s;
     }
     let mut e = d;
     if d.phase {
         e.phase = false;
-        let t = step(true, d, e);
-        return Ran {
-            device: t.device,
-            terminals: [add(s.terminals[0], t.terminals[0]), add(s.terminals[1], t.terminals[1]), add(s.terminals[2], t.terminals[2])],
-        };
+        return count(ns, step(true, d, e));
     }
     e.phase = true;
     Ran {
         device: e,
-        terminals: s.terminals,
+        terminals: ns,
     }
 }

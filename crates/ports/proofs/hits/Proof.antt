@@ -1,12 +1,9 @@
+use borrow.Author.Needs.{needs}
 use Rattle.rules.specs.Patterns.{hitAt}
 use Rattle.ports.proofs.Masks.{hits-bits}
-use borrow.Author.Needs.{needs}
 use Rattle.ports.proofs.hits.Statement.{statement}
 use Rattle.ports.proofs.hits.Tie as tie
-use Rattle.ports.proofs.hits.Reads as reads
-use Rattle.ports.proofs.hits.Lts as lts
 
--- src/lib.rt:101:1
 returns : tie.Need-returns
 unfolding hitAt
 returns c = hits-bits _ _ _ _ _ (search needs) (search needs) (search needs) (search needs) (search needs)

@@ -1,12 +1,9 @@
-use Rattle.ports.proofs.Masks.{level-bits}
-use Rattle.rules.specs.PortData.{levelOf}
 use borrow.Author.Needs.{needs}
+use Rattle.rules.specs.PortData.{levelOf}
+use Rattle.ports.proofs.Masks.{level-bits}
 use Rattle.ports.proofs.level.Statement.{statement}
 use Rattle.ports.proofs.level.Tie as tie
-use Rattle.ports.proofs.level.Reads as reads
-use Rattle.ports.proofs.level.Lts as lts
 
--- src/lib.rt:53:1
 returns : tie.Need-returns
 unfolding levelOf
 returns c = level-bits _ _ (search needs) (search needs)

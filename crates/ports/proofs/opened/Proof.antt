@@ -1,19 +1,15 @@
+use borrow.Author.Needs.{needs}
+use borrow.Author.Tests.{eq-eqb, ne-eqb}
 use Rattle.rules.specs.PortData.{unprotected}
 use Rattle.rules.specs.Byte.{byteOf}
 use Rattle.ports.proofs.Masks.{opened-bits}
-use borrow.Author.Needs.{needs}
-use borrow.Author.Tests.{eq-eqb, ne-eqb}
 use Rattle.ports.proofs.opened.Statement.{statement}
 use Rattle.ports.proofs.opened.Tie as tie
-use Rattle.ports.proofs.opened.Reads as reads
-use Rattle.ports.proofs.opened.Lts as lts
 
--- src/lib.rt:76:9
 returns : tie.Need-returns
 unfolding unprotected byteOf
 returns c = simp (eq-eqb _ _ (c .if1 .taken)) (opened-bits (c .before .args .b) (search needs))
 
--- src/lib.rt:72:1
 returns-2 : tie.Need-returns-2
 unfolding unprotected byteOf
 returns-2 c = simp (ne-eqb _ _ (c .if1 .left))

@@ -1,12 +1,9 @@
+use borrow.Author.Needs.{needs}
 use Rattle.rules.specs.PortData.{pathOf}
 use Rattle.ports.proofs.Masks.{path-bits}
-use borrow.Author.Needs.{needs}
 use Rattle.ports.proofs.path.Statement.{statement}
 use Rattle.ports.proofs.path.Tie as tie
-use Rattle.ports.proofs.path.Reads as reads
-use Rattle.ports.proofs.path.Lts as lts
 
--- src/lib.rt:34:1
 returns : tie.Need-returns
 unfolding pathOf
 returns c = path-bits _ _ _ _ (search needs) (search needs) (search needs) (search needs)

@@ -1,17 +1,12 @@
+use borrow.Author.Needs.{needs}
 use Rattle.rules.specs.PortData.{pinsOf}
 use Rattle.ports.proofs.Masks.{pins-bits}
-use borrow.Author.Needs.{needs}
 use Rattle.ports.proofs.pins.Statement.{statement}
 use Rattle.ports.proofs.pins.Tie as tie
-use Rattle.ports.proofs.pins.Reads as reads
-use Rattle.ports.proofs.pins.Lts as lts
-use Rattle.ports.proofs.spread.Reads as spread-reads
 
--- src/lib.rt:30:18
 spread-requires : tie.Need-spread-requires
 spread-requires c κs = search needs
 
--- src/lib.rt:26:1
 returns : tie.Need-returns
 unfolding pinsOf
 returns c = simp (c .before .before .before .spread .ensures) (pins-bits _ _ _ _ _ _ (search needs) (search needs) (search needs) (search needs) (search needs))

@@ -1,15 +1,11 @@
 use Rattle.rules.specs.Byte.{byteOf}
 use Rattle.ports.proofs.place.Statement.{statement}
 use Rattle.ports.proofs.place.Tie as tie
-use Rattle.ports.proofs.place.Reads as reads
-use Rattle.ports.proofs.place.Lts as lts
 
--- src/lib.rt:61:1
 returns : tie.Need-returns
 unfolding byteOf
 returns c = simp (c .if1 .taken)
 
--- src/lib.rt:61:1
 returns-2 : tie.Need-returns-2
 unfolding byteOf
 returns-2 c = simp (c .if1 .left)

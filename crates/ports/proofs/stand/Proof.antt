@@ -1,35 +1,25 @@
 use mathlib.Core.Bool.{cond}
 use borrow.Author.Tests.{eq-eqb, ne-eqb}
-use Rattle.ports.proofs.Masks.{stand-bits, kept-bits}
 use borrow.Author.Needs.{needs}
+use Rattle.ports.proofs.Masks.{stand-bits, kept-bits}
 use Rattle.ports.proofs.stand.Statement.{statement}
 use Rattle.ports.proofs.stand.Tie as tie
-use Rattle.ports.proofs.stand.Reads as reads
-use Rattle.ports.proofs.stand.Lts as lts
-use Rattle.counters.proofs.output.Reads as output-reads
-use Rattle.ports.proofs.place.Reads as place-reads
-use Rattle.ports.proofs.spread.Reads as spread-reads
 
--- src/lib.rt:72:13
 place-requires : tie.Need-place-requires
 place-requires c κs = search needs
 
--- src/lib.rt:73:13
 output-requires : tie.Need-output-requires
 output-requires c κs = search needs
 
--- src/lib.rt:74:35
 spread-requires : tie.Need-spread-requires
 spread-requires c κs = search needs
 
--- src/lib.rt:74:9
 returns : tie.Need-returns
-returns c = 
+returns c =
     let a = c .before .before .before .before .before .args in
     simp (c .spread .ensures, c .before .output .ensures, c .before .before .place .ensures)
     (stand-bits (a .c) (cond (a .high) 4 0) (a .x) (search needs) (eq-eqb _ _ (c .before .before .before .if1 .taken)))
 
--- src/lib.rt:68:1
 returns-2 : tie.Need-returns-2
 returns-2 c = kept-bits _ _ _ (search needs) (ne-eqb _ _ (c .if1 .left))
 

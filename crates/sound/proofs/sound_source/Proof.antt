@@ -1,0 +1,14 @@
+use mathlib.Core.Path.{_≡_, refl, sym, ap, _∙_}
+use Rattle.rules.specs.Sound.{soundSource, errOnly, hiddenOnly}
+use Rattle.sound.proofs.sound_source.Statement.{statement}
+use Rattle.sound.proofs.sound_source.Tie as tie
+use Rattle.sound.proofs.sound_source.Reads as reads
+use Rattle.sound.proofs.sound_source.Lts as lts
+
+-- src/lib.rt:12:1
+returns : tie.Need-returns
+unfolding soundSource errOnly hiddenOnly
+returns c = refl
+
+pub sound-source-spec : {M : Type 1} → statement M
+sound-source-spec = tie.close (tie.spec returns)
