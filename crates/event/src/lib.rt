@@ -6,7 +6,6 @@ use rules::Device;
 use rules::Done;
 use rules::Event;
 use rules::Outcome;
-use rules::Ran;
 
 // The answer to a sound record's event, with the lines after it.
 fn outcome(code: u8, r: Done) -> Outcome {
@@ -88,22 +87,8 @@ fn on_pins(d: Device, a: u32, b: u32, c: u32) -> Outcome {
     accepted(s.device, 0)
 }
 
-// n PCLK clocks.
-pub fn run(n: u32, d: Device) -> Ran {
-    let mut s = Ran {
-        device: d,
-        terminals: [0; 3],
-    };
-    let mut i: u32 = 0;
-    while i < n {
-        s = step::clock(s);
-        i += 1;
-    }
-    s
-}
-
 fn on_clocks(d: Device, n: u32) -> Outcome {
-    let s = run(n, d);
+    let s = runner::run(n, d);
     let e = s.device;
     let t = s.terminals;
     outcome(

@@ -1,0 +1,4 @@
+pub mod Iterate
+pub mod Frame
+pub mod Reports
+pub mod Rounds

@@ -1,0 +1,112 @@
+-- A sound record, clause by clause: what `soundOf` tests, as facts about each source, counter, port and pattern.
+-- Assumes nothing.
+use Prim.Native.Nat.{ℕ, _<_}
+use mathlib.Core.Path.{_≡_}
+use mathlib.Core.Bool.{Bool, false, not, _&&_, So}
+use mathlib.Core.List.{[], _∷_}
+use lib.Dec.{eqb, ltb}
+use borrow.Author.Tests.{ltb-true, lt-ltb}
+use Rattle.rules.specs.declared.Source.{Source}
+use Rattle.rules.specs.declared.Counter.{Counter}
+use Rattle.rules.specs.declared.Port.{Port}
+use Rattle.rules.specs.declared.Device.{Device}
+use Rattle.rules.specs.Record.{vectorAt, portAt, patternAt, counterAt, sourceAt, quiet, idle, bare, blank}
+use Rattle.rules.specs.Registers.{reset, portEnabled, counterEnabled, laterConfig, laterPortMode, laterCounterMode}
+use Rattle.rules.specs.Sound.{fourBits, errOnly, hiddenOnly, soundSource, cipOnly, halfOnly, frozenOnly, soundCounter, pmfOnly, soundPortAt}
+use Rattle.theorems.proofs.Tests.{both, left, right, each, if-then, only-if}
+
+-- ---- one source, one counter, port C
+pub record SourceSound (s : Source) : Type 0 where
+  pub err : So (s .err) → So (s .ip)
+  pub hidden : So (s .hidden) → So (s .ip && not (s .err))
+
+pub record CounterSound (enabled : Bool) (c : Counter) : Type 0 where
+  pub mode : laterCounterMode (c .mode) ≡ false
+  pub cip : So (c .cip) → So enabled
+  pub half : So (c .half) → So (c .cip)
+  pub frozen : So (not (c .rcc)) → So (eqb (c .frozen) 0)
+
+pub record FourBits (q : Port) : Type 0 where
+  pub polarity : q .polarity < 16
+  pub direction : q .direction < 16
+  pub special : q .special < 16
+  pub output : q .output < 16
+  pub outside : q .outside < 16
+  pub catcher : q .catcher < 16
+
+pub source-sound : {s : Source} → So (soundSource s) → SourceSound s
+unfolding soundSource errOnly hiddenOnly
+source-sound {s} h =
+    record {
+      err = if-then (s .err) (s .ip) (left (errOnly s) (hiddenOnly s) h);
+      hidden = if-then (s .hidden) (s .ip && not (s .err)) (right (errOnly s) (hiddenOnly s) h);
+    }
+
+pub sound-source : {s : Source} → SourceSound s → So (soundSource s)
+unfolding soundSource errOnly hiddenOnly
+sound-source {s} h = both (only-if (s .err) (s .ip) (h .err)) (only-if (s .hidden) (s .ip && not (s .err)) (h .hidden))
+
+pub counter-sound : {e : Bool} {c : Counter} → laterCounterMode (c .mode) ≡ false → So (soundCounter e c) → CounterSound e c
+unfolding soundCounter cipOnly halfOnly frozenOnly
+counter-sound {e} {c} m h =
+    let g = left (cipOnly e c && halfOnly c) (frozenOnly c) h in
+    record {
+      mode = m;
+      cip = if-then (c .cip) e (left (cipOnly e c) (halfOnly c) g);
+      half = if-then (c .half) (c .cip) (right (cipOnly e c) (halfOnly c) g);
+      frozen = if-then (not (c .rcc)) (eqb (c .frozen) 0) (right (cipOnly e c && halfOnly c) (frozenOnly c) h);
+    }
+
+pub sound-counter : {e : Bool} {c : Counter} → CounterSound e c → So (soundCounter e c)
+unfolding soundCounter cipOnly halfOnly frozenOnly
+sound-counter {e} {c} h =
+    both (both (only-if (c .cip) e (h .cip)) (only-if (c .half) (c .cip) (h .half)))
+    (only-if (not (c .rcc)) (eqb (c .frozen) 0) (h .frozen))
+
+pub four-bits : {q : Port} → So (fourBits q) → FourBits q
+unfolding fourBits
+four-bits {q} h =
+    let part =
+    each
+    (ltb (q .polarity) 16 ∷ ltb (q .direction) 16 ∷ ltb (q .special) 16 ∷ ltb (q .output) 16 ∷ ltb (q .outside) 16 ∷ ltb (q .catcher) 16 ∷ []) h in
+    record {
+      polarity = ltb-true _ 16 (part 0);
+      direction = ltb-true _ 16 (part 1);
+      special = ltb-true _ 16 (part 2);
+      output = ltb-true _ 16 (part 3);
+      outside = ltb-true _ 16 (part 4);
+      catcher = ltb-true _ 16 (part 5);
+    }
+
+pub bits-four : {q : Port} → FourBits q → So (fourBits q)
+unfolding fourBits
+bits-four {q} h =
+    both (both (both (both (both (lt-ltb _ 16 (h .polarity)) (lt-ltb _ 16 (h .direction))) (lt-ltb _ 16 (h .special))) (lt-ltb _ 16 (h .output)))
+    (lt-ltb _ 16 (h .outside)))
+    (lt-ltb _ 16 (h .catcher))
+
+-- ---- the record as reset leaves it, but for the outside pins and IEI
+pub record Cleared (d : Device) : Type 0 where
+  pub master : d .master ≡ 1
+  pub config : d .config ≡ 0
+  pub vectors : (v : ℕ) → v < 3 → vectorAt d v ≡ 0
+  pub ports : (p : ℕ) → p < 3 → portAt d p ≡ bare (portAt d p .outside)
+  pub patterns : (p : ℕ) → p < 2 → patternAt d p ≡ blank
+  pub counters : (i : ℕ) → i < 3 → counterAt d i ≡ idle
+  pub sources : (k : ℕ) → k < 5 → sourceAt d k ≡ quiet
+  pub phase : d .phase ≡ false
+
+-- ---- what a step needs of the record after its direct effect
+pub record Base (d : Device) : Type 0 where
+  pub config : laterConfig (d .config) ≡ false
+  pub modes : (p : ℕ) → p < 2 → laterPortMode (patternAt d p .mode) ≡ false
+  pub counters : (i : ℕ) → i < 3 → CounterSound (counterEnabled d i) (counterAt d i)
+  pub sources : (k : ℕ) → k < 5 → SourceSound (sourceAt d k)
+  pub four : FourBits (portAt d 2)
+  pub held : So (reset d) → Cleared d
+
+-- ---- and what it makes of it
+pub record Sound (d : Device) : Type 0 where
+  pub base : Base d
+  pub ports : (p : ℕ) → p < 3 → So (soundPortAt d p)
+  pub patterns : (p : ℕ) → p < 2 → So (pmfOnly (portEnabled d p) (patternAt d p))

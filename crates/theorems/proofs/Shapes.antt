@@ -1,0 +1,198 @@
+-- A record of the device's shape: three vectors, three ports, two patterns, three counters, five sources. Every event keeps it.
+-- Assumes nothing.
+use Prim.Native.Nat.{ℕ, zero, suc}
+use mathlib.Core.Path.{_≡_, refl, _∙_}
+use mathlib.Core.Bool.{Bool, true, false, not, _&&_, cond}
+use mathlib.Core.List.{[], _∷_}
+use lib.Dec.{eqb}
+use lib.ListN.{length, length-set}
+use Rattle.rules.specs.declared.Source.{Source}
+use Rattle.rules.specs.declared.Counter.{Counter}
+use Rattle.rules.specs.declared.Port.{Port}
+use Rattle.rules.specs.declared.Pattern.{Pattern}
+use Rattle.rules.specs.declared.Device.{Device}
+use Rattle.rules.specs.declared.Counted.{Counted}
+use Rattle.rules.specs.declared.Event.{Event}
+use Rattle.rules.specs.declared.Outcome.{Outcome}
+use Rattle.rules.specs.declared.Done.{Done}
+use Rattle.rules.specs.declared.Ran.{Ran}
+use Rattle.rules.specs.declared.Link.{Link}
+use Rattle.rules.specs.declared.Kind.{Kind}
+use Rattle.rules.specs.declared.Kind.the-variants.{Master, Config, Vector, Polarity, Direction, Special, PortCommand, CounterCommand, Data, Current, Constant, CounterMode, CurrentVector, PortMode, Handshake, PatternPolarity, Transition, Mask, Absent}
+use Rattle.rules.specs.Byte.{bit}
+use Rattle.rules.specs.Record.{freshOf, counterAt, sourceAt, ofPort, ofCounter, withMaster, withVector, withPort, withPattern, withCounter, withSource, withIei, withPhase, resetOf}
+use Rattle.rules.specs.Registers.{reset, kindOf}
+use Rattle.rules.specs.Counters.{thawed}
+use Rattle.rules.specs.Interrupts.{raisedOf, acknowledged}
+use Rattle.rules.specs.Step.{eventAt, turned, counterTurn, catchers, matchedBy, patternTurn, settled, stepOf, counted, clockOf, iterate, ranOf}
+use Rattle.rules.specs.Access.{afterRead, masterWritten, configWritten, portCommanded, counterCommanded, writtenOf}
+use Rattle.rules.specs.Events.{isX, isW, isR, isP, isT, isK, writeDone, readDone, outsideSet, pinsDone, clocksDone, acknowledgeDone, ieiDone, doneOf, outcomeOf, eventOf}
+use Rattle.theorems.proofs.Tests.{by-test}
+use Rattle.theorems.proofs.Refusals.{ways}
+
+pub record Shaped (d : Device) : Type 0 where
+  pub vectors : length (d .vectors) ≡ 3
+  pub ports : length (d .ports) ≡ 3
+  pub patterns : length (d .patterns) ≡ 2
+  pub counters : length (d .counters) ≡ 3
+  pub sources : length (d .sources) ≡ 5
+
+-- the record with other parts, as many
+shaped : (d e : Device) → Shaped d → length (e .vectors) ≡ length (d .vectors) → length (e .ports) ≡ length (d .ports)
+    → length (e .patterns) ≡ length (d .patterns) → length (e .counters) ≡ length (d .counters) → length (e .sources) ≡ length (d .sources) → Shaped e
+shaped d e h v q p c s =
+    record { vectors = v ∙ h .vectors; ports = q ∙ h .ports; patterns = p ∙ h .patterns; counters = c ∙ h .counters; sources = s ∙ h .sources }
+
+pub reset-shaped : (d : Device) → Shaped (resetOf d)
+unfolding resetOf
+reset-shaped d = record { vectors = refl; ports = refl; patterns = refl; counters = refl; sources = refl }
+
+pub fresh-shaped : Shaped freshOf
+fresh-shaped = record { vectors = refl; ports = refl; patterns = refl; counters = refl; sources = refl }
+
+module _ (d : Device) (h : Shaped d) where
+  port-shaped : (p : ℕ) (q : Port) → Shaped (withPort d p q)
+  port-shaped p q = shaped d (withPort d p q) h refl (length-set (d .ports) p q) refl refl refl
+
+  pattern-shaped : (p : ℕ) (q : Pattern) → Shaped (withPattern d p q)
+  pattern-shaped p q = shaped d (withPattern d p q) h refl refl (length-set (d .patterns) p q) refl refl
+
+  counter-shaped : (i : ℕ) (c : Counter) → Shaped (withCounter d i c)
+  counter-shaped i c = shaped d (withCounter d i c) h refl refl refl (length-set (d .counters) i c) refl
+
+  source-shaped : (k : ℕ) (s : Source) → Shaped (withSource d k s)
+  source-shaped k s = shaped d (withSource d k s) h refl refl refl refl (length-set (d .sources) k s)
+
+  event-at-shaped : (k : ℕ) (hides happens : Bool) → Shaped (eventAt d k hides happens)
+  unfolding eventAt
+  event-at-shaped k hides happens =
+      by-test Shaped happens (withSource d k (raisedOf hides (sourceAt d k))) d (λ _. source-shaped k (raisedOf hides (sourceAt d k))) (λ _. h)
+
+-- ---- a step
+turned-shaped : (d : Device) (i : ℕ) (r : Counted) → Shaped d → Shaped (turned d i r .device)
+unfolding turned
+turned-shaped d i r h = event-at-shaped (withCounter d i (r .counter)) (counter-shaped d h i (r .counter)) (ofCounter i) true (r .terminal)
+
+counter-turn-shaped : (link : Link) (timer : Bool) (were are i : ℕ) (d : Device) → Shaped d → Shaped (counterTurn link timer were are i d .device)
+unfolding counterTurn
+counter-turn-shaped link timer were are i d h = turned-shaped d i _ h
+
+catchers-shaped : (d : Device) → Shaped d → Shaped (catchers d)
+unfolding catchers
+catchers-shaped d h = record { vectors = h .vectors; ports = refl; patterns = h .patterns; counters = h .counters; sources = h .sources }
+
+pattern-turn-shaped : (p before : ℕ) (d : Device) → Shaped d → Shaped (patternTurn p before d)
+unfolding patternTurn matchedBy
+pattern-turn-shaped p before d h = event-at-shaped (withPattern d p _) (pattern-shaped d h p _) (ofPort p) _ _
+
+pub step-shaped : (timer : Bool) (d0 d1 : Device) → Shaped d1 → Shaped (stepOf timer d0 d1 .device)
+unfolding stepOf settled
+step-shaped timer d0 d1 h =
+    pattern-turn-shaped 1 _ _
+    (pattern-turn-shaped 0 _ _
+    (catchers-shaped _
+    (counter-turn-shaped _ timer _ _ 2 _ (counter-turn-shaped _ timer _ _ 1 _ (counter-turn-shaped _ timer _ _ 0 d1 h)))))
+
+-- ---- the clock
+phase-shaped : (d : Device) (v : Bool) → Shaped d → Shaped (withPhase d v)
+phase-shaped d v h = shaped d (withPhase d v) h refl refl refl refl refl
+
+pub clock-shaped : (s : Ran) → Shaped (s .device) → Shaped (clockOf s .device)
+unfolding clockOf counted
+clock-shaped s h =
+    let d = s .device in
+    let stepped = counted (s .terminals) (stepOf true d (withPhase d false)) in
+    let flipped : Ran = record { device = withPhase d true; terminals = s .terminals } in
+    by-test (λ (r : Ran). Shaped (r .device)) (reset d) s (cond (d .phase) stepped flipped) (λ _. h)
+    (λ _.
+    by-test (λ (r : Ran). Shaped (r .device)) (d .phase) stepped flipped
+    (λ _. step-shaped true d (withPhase d false) (phase-shaped d false h)) (λ _. phase-shaped d true h))
+
+pub clocks-shaped : (n : ℕ) (s : Ran) → Shaped (s .device) → Shaped (iterate n clockOf s .device)
+unfolding iterate
+clocks-shaped zero s h = h
+clocks-shaped (suc n) s h = clock-shaped (iterate n clockOf s) (clocks-shaped n s h)
+
+pub ran-shaped : (n : ℕ) (d : Device) → Shaped d → Shaped (ranOf n d .device)
+unfolding ranOf
+ran-shaped n d h = clocks-shaped n (record { device = d; terminals = 0 ∷ 0 ∷ 0 ∷ [] }) h
+
+-- ---- the other events
+module _ (d : Device) (h : Shaped d) where
+  written-shaped : (k : Kind) (b : ℕ) → Shaped (writtenOf d k b)
+  unfolding writtenOf masterWritten configWritten portCommanded counterCommanded
+  written-shaped Master b =
+      by-test Shaped (bit b 0) (resetOf d) (withMaster d b) (λ _. reset-shaped d)
+      (λ _. shaped d (withMaster d b) h refl refl refl refl refl)
+  written-shaped Config b = record { vectors = h .vectors; ports = h .ports; patterns = h .patterns; counters = refl; sources = h .sources }
+  written-shaped (Vector v) b = shaped d (withVector d v b) h (length-set (d .vectors) v b) refl refl refl refl
+  written-shaped (Polarity p) b = port-shaped d h p _
+  written-shaped (Direction p) b = port-shaped d h p _
+  written-shaped (Special p) b = port-shaped d h p _
+  written-shaped (PortCommand p) b = source-shaped (withPattern d p _) (pattern-shaped d h p _) (ofPort p) _
+  written-shaped (CounterCommand i) b = source-shaped (withCounter d i _) (counter-shaped d h i _) (ofCounter i) _
+  written-shaped (Data p) b = port-shaped d h p _
+  written-shaped (Current i high) b = h
+  written-shaped (Constant i high) b = counter-shaped d h i _
+  written-shaped (CounterMode i) b = counter-shaped d h i _
+  written-shaped CurrentVector b = h
+  written-shaped (PortMode p) b = pattern-shaped d h p _
+  written-shaped (Handshake p) b = pattern-shaped d h p _
+  written-shaped (PatternPolarity p) b = pattern-shaped d h p _
+  written-shaped (Transition p) b = pattern-shaped d h p _
+  written-shaped (Mask p) b = pattern-shaped d h p _
+  written-shaped Absent b = h
+
+  read-shaped : (k : Kind) → Shaped (afterRead d k)
+  unfolding afterRead
+  read-shaped Master = h
+  read-shaped Config = h
+  read-shaped (Vector v) = h
+  read-shaped (Polarity p) = h
+  read-shaped (Direction p) = h
+  read-shaped (Special p) = h
+  read-shaped (PortCommand p) = h
+  read-shaped (CounterCommand i) = h
+  read-shaped (Data p) = h
+  read-shaped (Current i high) = by-test Shaped high d (withCounter d i (thawed (counterAt d i))) (λ _. h) (λ _. counter-shaped d h i _)
+  read-shaped (Constant i high) = h
+  read-shaped (CounterMode i) = h
+  read-shaped CurrentVector = h
+  read-shaped (PortMode p) = h
+  read-shaped (Handshake p) = h
+  read-shaped (PatternPolarity p) = h
+  read-shaped (Transition p) = h
+  read-shaped (Mask p) = h
+  read-shaped Absent = h
+
+  outside-shaped : (a b c : ℕ) → Shaped (outsideSet d a b c)
+  unfolding outsideSet
+  outside-shaped a b c = record { vectors = h .vectors; ports = refl; patterns = h .patterns; counters = h .counters; sources = h .sources }
+
+  acknowledged-shaped : Shaped (acknowledged d)
+  unfolding acknowledged
+  acknowledged-shaped = source-shaped d h _ _
+
+  done-shaped : (e : Event) → Shaped (doneOf d e .device)
+  unfolding doneOf writeDone readDone pinsDone clocksDone acknowledgeDone ieiDone
+  done-shaped e =
+      by-test (λ (r : Done). Shaped (r .device)) (isX e) _ _ (λ _. reset-shaped d)
+      (λ _.
+      by-test (λ (r : Done). Shaped (r .device)) (isW e) _ _
+      (λ _.
+      by-test (λ (r : Done). Shaped (r .device)) (reset d && not (eqb (e .a) 0)) _ _ (λ _. h)
+      (λ _. step-shaped false d _ (written-shaped (kindOf (e .a)) (e .b))))
+      (λ _.
+      by-test (λ (r : Done). Shaped (r .device)) (isR e) _ _
+      (λ _. by-test (λ (r : Done). Shaped (r .device)) (reset d && not (eqb (e .a) 0)) _ _ (λ _. h) (λ _. read-shaped (kindOf (e .a))))
+      (λ _.
+      by-test (λ (r : Done). Shaped (r .device)) (isP e) _ _ (λ _. step-shaped false d _ (outside-shaped (e .a) (e .b) (e .c)))
+      (λ _.
+      by-test (λ (r : Done). Shaped (r .device)) (isT e) _ _ (λ _. ran-shaped (e .a) d h)
+      (λ _.
+      by-test (λ (r : Done). Shaped (r .device)) (isK e) _ _ (λ _. acknowledged-shaped)
+      (λ _. shaped d (withIei d _) h refl refl refl refl refl))))))
+
+  pub event-shaped : (e : Event) → Shaped (eventOf d e .device)
+  unfolding outcomeOf
+  event-shaped e = ways d e (λ (o : Outcome). Shaped (o .device)) (λ _. h) (λ _. done-shaped e) (λ _. h)

@@ -1,0 +1,56 @@
+-- Every event takes a sound record to a sound record, from the fresh device on. No length of a list and no range of a number is asked.
+-- Assumes nothing.
+use Prim.Native.Nat.{ℕ}
+use mathlib.Core.Path.{_≡_, sym, _∙_}
+use mathlib.Core.Bool.{true, true≢false}
+use mathlib.Core.List.{List, [], _∷_}
+use lib.Dec.{lit<}
+use Rattle.rules.specs.declared.Device.{Device}
+use Rattle.rules.specs.declared.Event.{Event}
+use Rattle.rules.specs.declared.Outcome.{Outcome}
+use Rattle.rules.specs.declared.Ran.{Ran}
+use Rattle.rules.specs.Record.{freshOf, resetOf}
+use Rattle.rules.specs.Step.{clockOf, iterate, ranOf}
+use Rattle.rules.specs.Events.{outcomeOf, eventOf}
+use Rattle.rules.specs.Sound.{soundOf}
+use Rattle.theorems.proofs.Tests.{not-so}
+use Rattle.theorems.proofs.Clauses.{sound-parts, parts-sound}
+use Rattle.theorems.proofs.Stepless.{reset-sound}
+use Rattle.theorems.proofs.Accepted.{clock-parts, clocks-parts, ran-parts, done-parts}
+use Rattle.theorems.proofs.Refusals.{ways, code-is, code-9}
+
+-- the fresh device is sound
+pub fresh-sound : soundOf freshOf ≡ true
+unfolding resetOf
+fresh-sound = parts-sound freshOf (reset-sound freshOf (lit< tt))
+
+-- one clock, n of them, and T n
+pub clock-sound : (s : Ran) → soundOf (s .device) ≡ true → soundOf (clockOf s .device) ≡ true
+clock-sound s h = parts-sound (clockOf s .device) (clock-parts s (sound-parts (s .device) h))
+
+pub clocks-sound : (n : ℕ) (s : Ran) → soundOf (s .device) ≡ true → soundOf (iterate n clockOf s .device) ≡ true
+clocks-sound n s h = parts-sound (iterate n clockOf s .device) (clocks-parts n s (sound-parts (s .device) h))
+
+pub ran-sound : (n : ℕ) (d : Device) → soundOf d ≡ true → soundOf (ranOf n d .device) ≡ true
+ran-sound n d h = parts-sound (ranOf n d .device) (ran-parts n d (sound-parts d h))
+
+-- every event
+pub event-sound : (d : Device) (e : Event) → soundOf d ≡ true → soundOf (eventOf d e .device) ≡ true
+unfolding outcomeOf
+event-sound d e h =
+    ways d e (λ (o : Outcome). soundOf (o .device) ≡ true) (λ _. h) (λ z. parts-sound _ (done-parts d e z (sound-parts d h))) (λ _. h)
+
+-- any events, one after another
+abbrev pub after : Device → List Event → Device
+after d [] = d
+after d (e ∷ es) = after (eventOf d e .device) es
+
+pub events-sound : (es : List Event) (d : Device) → soundOf d ≡ true → soundOf (after d es) ≡ true
+events-sound [] d h = h
+events-sound (e ∷ es) d h = events-sound es (eventOf d e .device) (event-sound d e h)
+
+-- so from the fresh device no event comes to code 9
+pub never-unsound : (es : List Event) (e : Event) → eventOf (after freshOf es) e .answer .code ≡ 9 → ⊥
+never-unsound es e n =
+    let d = after freshOf es in
+    true≢false (sym (events-sound es freshOf fresh-sound) ∙ not-so (soundOf d) (code-9 d e .0 (sym (code-is d e) ∙ n)))

@@ -1,0 +1,51 @@
+-- What keeps a source sound: an event, a command, an acknowledge.
+-- Assumes nothing.
+use Prim.Native.Nat.{ℕ}
+use mathlib.Core.Path.{refl}
+use mathlib.Core.Bool.{Bool, true, false, not, _&&_, cond, false≢true}
+use lib.Dec.{eqb}
+use Rattle.rules.specs.declared.Source.{Source}
+use Rattle.rules.specs.Registers.{withIus, withIe, withIp, ipCleared, commanded}
+use Rattle.rules.specs.Interrupts.{raisedOf}
+use Rattle.theorems.proofs.Tests.{right, by-test}
+use Rattle.theorems.proofs.Parts.{SourceSound}
+
+pub ius-sound : (s : Source) (v : Bool) → SourceSound s → SourceSound (withIus s v)
+ius-sound s v h = record { err = h .err; hidden = h .hidden }
+
+ie-sound : (s : Source) (v : Bool) → SourceSound s → SourceSound (withIe s v)
+ie-sound s v h = record { err = h .err; hidden = h .hidden }
+
+-- IP set, ERR and the hidden error as they are
+ip-sound : (s : Source) → SourceSound s → SourceSound (withIp s true (s .err) (s .hidden))
+ip-sound s h = record { err = λ _. refl; hidden = λ p. right (s .ip) (not (s .err)) (h .hidden p) }
+
+cleared-sound : (s : Source) → SourceSound (ipCleared s)
+unfolding ipCleared
+cleared-sound s = record { err = λ p. p; hidden = λ p. absurd (false≢true p) }
+
+pub raised-sound : (hides : Bool) (s : Source) → SourceSound s → SourceSound (raisedOf hides s)
+unfolding raisedOf
+raised-sound hides s h =
+    by-test SourceSound (s .ip) (cond (hides && not (s .err)) (withIp s true (s .err) true) s) (withIp s true (s .err) (s .hidden))
+    (λ _.
+    by-test SourceSound (hides && not (s .err)) (withIp s true (s .err) true) s
+    (λ t. record { err = λ _. refl; hidden = λ _. right hides (not (s .err)) t }) (λ _. h))
+    (λ _. ip-sound s h)
+
+module _ (s : Source) (n : ℕ) (h : SourceSound s) where
+  -- the command m, or what else the command does
+  or-else : (m : ℕ) (x y : Source) → SourceSound x → SourceSound y → SourceSound (cond (eqb n m) x y)
+  or-else m x y p q = by-test SourceSound (eqb n m) x y (λ _. p) (λ _. q)
+
+  pub commanded-source : SourceSound (commanded s n)
+  unfolding commanded
+  commanded-source =
+      or-else 1 _ _ (ius-sound (ipCleared s) false (cleared-sound s))
+      (or-else 2 _ _ (ius-sound s true h)
+      (or-else 3 _ _ (ius-sound s false h)
+      (or-else 4 _ _ (ip-sound s h)
+      (or-else 5 _ _ (cleared-sound s)
+      (or-else 6 _ _ (ie-sound s true h)
+      (or-else 7 _ _ (ie-sound s false h)
+      h))))))

@@ -1,0 +1,184 @@
+-- The direct effect of a write that is not refused keeps the base of a step; so does a reset, and so do the outside levels.
+-- Assumes nothing.
+use Prim.Native.Nat.{ℕ, _/_, _<_}
+use mathlib.Core.Path.{_≡_, refl, sym, ap, subst}
+use mathlib.Core.Bool.{Bool, false, So}
+use mathlib.Core.List.{[], _∷_}
+use lib.Dec.{eqb, lit<}
+use lib.ListN.{getD, set}
+use borrow.Author.Tests.{eqb-true}
+use Rattle.rules.specs.declared.Counter.{Counter}
+use Rattle.rules.specs.declared.Port.{Port}
+use Rattle.rules.specs.declared.Pattern.{Pattern}
+use Rattle.rules.specs.declared.Device.{Device}
+use Rattle.rules.specs.declared.Kind.{Kind}
+use Rattle.rules.specs.declared.Kind.the-variants.{Master, Config, Vector, Polarity, Direction, Special, PortCommand, CounterCommand, Data, Current, Constant, CounterMode, CurrentVector, PortMode, Handshake, PatternPolarity, Transition, Mask, Absent}
+use Rattle.rules.specs.Byte.{bit, withByte}
+use Rattle.rules.specs.Record.{portAt, patternAt, counterAt, sourceAt, quiet, idle, bare, blank, ofPort, ofCounter, withMaster, withVector, withPort, withPattern, withCounter, resetOf}
+use Rattle.rules.specs.Registers.{reset, counterOn, counterEnabled, kept, commanded, later, laterConfig, laterPortMode, laterCounterMode}
+use Rattle.rules.specs.Counters.{commandedBy}
+use Rattle.rules.specs.Patterns.{withIoe}
+use Rattle.rules.specs.PortData.{writtenData}
+use Rattle.rules.specs.Access.{masterWritten, configWritten, portCommanded, counterCommanded, withPolarity, withDirection, withSpecial, withConstant, withMode, writtenOf}
+use Rattle.rules.specs.Events.{withOutside, outsideSet}
+use Rattle.theorems.proofs.Tests.{never, by-test}
+use Rattle.theorems.proofs.Places.{each2, each3, each5, set-keeps}
+use Rattle.theorems.proofs.Parts.{SourceSound, CounterSound, FourBits, Cleared, Base}
+use Rattle.theorems.proofs.CounterLaws.{commanded-sound, enabled-sound, constant-sound, mode-sound}
+use Rattle.theorems.proofs.SourceLaws.{commanded-source}
+use Rattle.theorems.proofs.PortLaws.{kept-four, polarity-four, direction-four, special-four, outside-four, data-four}
+use Rattle.theorems.proofs.Stores.{cleared-ports, base-ports, base-pattern, base-counter, base-source}
+
+-- a record as reset leaves it is under RESET
+pub awake : {A : Type 0} {d : Device} → reset d ≡ false → Cleared d → A
+awake {A} {d} z c = never z (ap (λ (n : ℕ). bit n 0) (c .master))
+
+-- ---- reset, and register 00
+pub reset-cleared : (d : Device) → Cleared (resetOf d)
+unfolding resetOf
+reset-cleared d =
+    record {
+      master = refl;
+      config = refl;
+      vectors = each3 (λ v. getD (0 ∷ 0 ∷ 0 ∷ []) v 0 ≡ 0) refl refl refl;
+      ports = each3 (λ p. portAt (resetOf d) p ≡ bare (portAt (resetOf d) p .outside)) refl refl refl;
+      patterns = each2 (λ p. patternAt (resetOf d) p ≡ blank) refl refl;
+      counters = each3 (λ i. counterAt (resetOf d) i ≡ idle) refl refl refl;
+      sources = each5 (λ k. sourceAt (resetOf d) k ≡ quiet) refl refl refl refl refl;
+      phase = refl;
+    }
+
+idle-sound : (e : Bool) → CounterSound e idle
+unfolding laterCounterMode
+idle-sound e = record { mode = refl; cip = λ p. never refl p; half = λ p. never refl p; frozen = λ _. refl }
+
+quiet-sound : SourceSound quiet
+quiet-sound = record { err = λ p. p; hidden = λ p. p }
+
+pub reset-base : (d : Device) → portAt d 2 .outside < 16 → Base (resetOf d)
+unfolding resetOf laterConfig laterPortMode
+reset-base d h =
+    record {
+      config = refl;
+      modes = each2 (λ p. laterPortMode (patternAt (resetOf d) p .mode) ≡ false) refl refl;
+      counters =
+          each3 (λ i. CounterSound (counterEnabled (resetOf d) i) (counterAt (resetOf d) i)) (idle-sound _) (idle-sound _) (idle-sound _);
+      sources = each5 (λ k. SourceSound (sourceAt (resetOf d) k)) quiet-sound quiet-sound quiet-sound quiet-sound quiet-sound;
+      four = record { polarity = lit< tt; direction = lit< tt; special = lit< tt; output = lit< tt; outside = h; catcher = lit< tt };
+      held = λ _. reset-cleared d;
+    }
+
+pub master-base : (d : Device) (b : ℕ) → Base d → Base (masterWritten d b)
+unfolding masterWritten
+master-base d b h =
+    by-test Base (bit b 0) (resetOf d) (withMaster d b) (λ _. reset-base d (h .four .outside))
+    (λ z.
+    record {
+      config = h .config;
+      modes = h .modes;
+      counters = h .counters;
+      sources = h .sources;
+      four = h .four;
+      held = λ r. never z r;
+    })
+
+-- ---- the outside levels
+pub outside-base : (d : Device) (a b c : ℕ) → c < 16 → Base d → Base (outsideSet d a b c)
+unfolding outsideSet
+outside-base d a b c l h =
+    let qs = withOutside (portAt d 0) a ∷ withOutside (portAt d 1) b ∷ withOutside (portAt d 2) c ∷ [] in
+    base-ports d qs h (outside-four (portAt d 2) c l (h .four))
+    (λ k.
+    cleared-ports d qs k
+    (each3 (λ p. getD qs p (bare 0) ≡ bare (getD qs p (bare 0) .outside))
+    (ap (λ (q : Port). withOutside q a) (k .ports 0 (lit< tt)))
+    (ap (λ (q : Port). withOutside q b) (k .ports 1 (lit< tt)))
+    (ap (λ (q : Port). withOutside q c) (k .ports 2 (lit< tt)))))
+
+-- ---- the other registers: not under RESET
+kept-small : (p b : ℕ) → So (eqb p 2) → kept p b < 16
+kept-small p b e = subst (λ (n : ℕ). kept n b < 16) (sym (eqb-true p 2 e)) (kept-four b)
+
+data-small : (q : Port) (p b : ℕ) → So (eqb p 2) → FourBits q → FourBits (writtenData q p b)
+data-small q p b e h = subst (λ (n : ℕ). FourBits (writtenData q n b)) (sym (eqb-true p 2 e)) (data-four q b h)
+
+module _ (d : Device) (h : Base d) (z : reset d ≡ false) where
+  config-base : (b : ℕ) → laterConfig b ≡ false → Base (configWritten d b)
+  unfolding configWritten
+  config-base b l =
+      record {
+        config = l;
+        modes = h .modes;
+        counters =
+            each3 (λ i. CounterSound (counterEnabled (configWritten d b) i) (counterAt (configWritten d b) i))
+            (enabled-sound (counterOn b 0) (counterAt d 0) (h .counters 0 (lit< tt)))
+            (enabled-sound (counterOn b 1) (counterAt d 1) (h .counters 1 (lit< tt)))
+            (enabled-sound (counterOn b 2) (counterAt d 2) (h .counters 2 (lit< tt)));
+        sources = h .sources;
+        four = h .four;
+        held = λ r. never z r;
+      }
+
+  vector-base : (v b : ℕ) → Base (withVector d v b)
+  vector-base v b =
+      record {
+        config = h .config;
+        modes = h .modes;
+        counters = h .counters;
+        sources = h .sources;
+        four = h .four;
+        held = λ r. never z r;
+      }
+
+  port-base : (p : ℕ) (q : Port) → (So (eqb p 2) → FourBits (portAt d p) → FourBits q) → Base (withPort d p q)
+  port-base p q f =
+      base-ports d (set (d .ports) p q) h
+      (set-keeps (λ j r. So (eqb j 2) → FourBits r) (d .ports) p 2 q (bare 0) (λ g e. f e (g e)) (λ _. h .four) refl) (awake z)
+
+  counter-base : (i : ℕ) (c : Counter) → (CounterSound (counterEnabled d i) (counterAt d i) → CounterSound (counterEnabled d i) c)
+      → Base (withCounter d i c)
+  counter-base i c f = base-counter d i c h f (awake z)
+
+  pattern-base : (p : ℕ) (q : Pattern) → (laterPortMode (patternAt d p .mode) ≡ false → laterPortMode (q .mode) ≡ false)
+      → Base (withPattern d p q)
+  pattern-base p q f = base-pattern d p q h f (awake z)
+
+  port-command-base : (p b : ℕ) → Base (portCommanded d p b)
+  unfolding portCommanded
+  port-command-base p b =
+      base-source (withPattern d p (withIoe (patternAt d p) (bit b 0))) (ofPort p) (commanded (sourceAt d (ofPort p)) (b / 32))
+      (pattern-base p (withIoe (patternAt d p) (bit b 0)) (λ m. m)) (commanded-source (sourceAt d (ofPort p)) (b / 32)) (awake z)
+
+  counter-command-base : (i b : ℕ) → Base (counterCommanded d i b)
+  unfolding counterCommanded
+  counter-command-base i b =
+      base-source (withCounter d i (commandedBy (counterEnabled d i) b (counterAt d i))) (ofCounter i) (commanded (sourceAt d (ofCounter i)) (b / 32))
+      (counter-base i (commandedBy (counterEnabled d i) b (counterAt d i)) (commanded-sound b (counterAt d i)))
+      (commanded-source (sourceAt d (ofCounter i)) (b / 32)) (awake z)
+
+  pub written-base : (k : Kind) (b : ℕ) → later k b ≡ false → Base (writtenOf d k b)
+  unfolding writtenOf later
+  written-base Master b l = master-base d b h
+  written-base Config b l = config-base b l
+  written-base (Vector v) b l = vector-base v b
+  written-base (Polarity p) b l =
+      port-base p (withPolarity (portAt d p) (kept p b)) (λ e g. polarity-four (portAt d p) (kept p b) (kept-small p b e) g)
+  written-base (Direction p) b l =
+      port-base p (withDirection (portAt d p) (kept p b)) (λ e g. direction-four (portAt d p) (kept p b) (kept-small p b e) g)
+  written-base (Special p) b l =
+      port-base p (withSpecial (portAt d p) (kept p b)) (λ e g. special-four (portAt d p) (kept p b) (kept-small p b e) g)
+  written-base (PortCommand p) b l = port-command-base p b
+  written-base (CounterCommand i) b l = counter-command-base i b
+  written-base (Data p) b l = port-base p (writtenData (portAt d p) p b) (data-small (portAt d p) p b)
+  written-base (Current i high) b l = h
+  written-base (Constant i high) b l =
+      counter-base i (withConstant (counterAt d i) (withByte high (counterAt d i .constant) b))
+      (constant-sound (counterAt d i) (withByte high (counterAt d i .constant) b))
+  written-base (CounterMode i) b l = counter-base i (withMode (counterAt d i) b) (mode-sound (counterAt d i) b l)
+  written-base CurrentVector b l = h
+  written-base (PortMode p) b l = pattern-base p _ (λ _. l)
+  written-base (Handshake p) b l = pattern-base p _ (λ m. m)
+  written-base (PatternPolarity p) b l = pattern-base p _ (λ m. m)
+  written-base (Transition p) b l = pattern-base p _ (λ m. m)
+  written-base (Mask p) b l = pattern-base p _ (λ m. m)
+  written-base Absent b l = h

@@ -1,0 +1,1 @@
+// Theorems about the definitions of `rules`: see proofs/. There is no code here.
