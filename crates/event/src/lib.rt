@@ -1,14 +1,19 @@
-// The event call, by value.
+// The event call, by value: any record and any event, to an answer beside the record.
 ghost use mathlib.Core.Path.{_≡_};
-ghost use Rattle.rules.specs.Events.{eventOf};
+ghost use mathlib.Core.Bool.{true};
+ghost use Rattle.rules.specs.Sound.{soundOf};
+ghost use Rattle.rules.specs.Events.{done, outcomeOf, outsideSet, eventOf};
 use rules::Answer;
 use rules::Device;
 use rules::Done;
 use rules::Event;
 use rules::Outcome;
+use rules::Port;
 
-// The answer to a sound record's event, with the lines after it.
-fn outcome(code: u8, r: Done) -> Outcome {
+// An answer with the lines after the event.
+fn outcome(code: u8, r: Done) -> Outcome
+    ensures { λ o. ⌜ o ≡ outcomeOf code r ⌝ }
+{
     let d = r.device;
     let n = r.terminals;
     Outcome {
@@ -26,112 +31,174 @@ fn outcome(code: u8, r: Done) -> Outcome {
     }
 }
 
-fn done(d: Device, value: u8) -> Done {
-    Done {
-        device: d,
-        value: value,
-        terminals: [0; 3],
-    }
+// A sound record's refusal.
+fn refused(code: u8, d: Device) -> Outcome
+    ensures { λ r. ⌜ r ≡ outcomeOf code (done d 0) ⌝ }
+{
+    outcome(
+        code,
+        Done {
+            device: d,
+            value: 0,
+            terminals: [0; 3],
+        },
+    )
 }
 
-fn refused(code: u8, d: Device) -> Outcome {
-    outcome(code, done(d, 0))
+// What is accepted, with no terminal counts.
+fn accepted(d: Device, v: u8) -> Outcome
+    ensures { λ r. ⌜ r ≡ outcomeOf 0 (done d v) ⌝ }
+{
+    outcome(
+        0,
+        Done {
+            device: d,
+            value: v,
+            terminals: [0; 3],
+        },
+    )
 }
 
-fn accepted(d: Device, value: u8) -> Outcome {
-    outcome(0, done(d, value))
+fn on_reset(d: Device, e: Event) -> Outcome
+    requires { ⌜ (soundOf d ≡ true) × (e .kind ≡ 0) ⌝ }
+    ensures { λ r. ⌜ r ≡ eventOf d e ⌝ }
+{
+    accepted(record::reset(d), 0)
 }
 
-fn on_write(d: Device, a: u32, b: u32) -> Outcome {
-    if 47 < a {
+fn on_write(d: Device, e: Event) -> Outcome
+    requires { ⌜ (soundOf d ≡ true) × (e .kind ≡ 1) ⌝ }
+    ensures { λ r. ⌜ r ≡ eventOf d e ⌝ }
+{
+    let b = e.b;
+    if 47 < e.a {
         return refused(2, d);
     }
     if 255 < b {
         return refused(5, d);
     }
-    if (d.master % 2 == 1) & (a != 0) {
+    if (d.master % 2 == 1) & (e.a != 0) {
         return accepted(d, 0);
     }
-    let k = registers::kind_of(a);
-    let byte = b as u8;
+    let k = registers::kind_of(e.a);
     if registers::read_only(k) {
         return refused(3, d);
     }
-    if registers::is_later(k, byte) {
+    if registers::is_later(k, b as u8) {
         return refused(4, d);
     }
-    let s = step::step(false, d, access::write(d, k, byte));
+    let s = step::step(false, d, access::write(d, k, b as u8));
     accepted(s.device, 0)
 }
 
-fn on_read(d: Device, a: u32) -> Outcome {
-    if 47 < a {
+fn on_read(d: Device, e: Event) -> Outcome
+    requires { ⌜ (soundOf d ≡ true) × (e .kind ≡ 2) ⌝ }
+    ensures { λ r. ⌜ r ≡ eventOf d e ⌝ }
+{
+    if 47 < e.a {
         return refused(2, d);
     }
-    if (d.master % 2 == 1) & (a != 0) {
+    if (d.master % 2 == 1) & (e.a != 0) {
         return accepted(d, 0);
     }
-    let k = registers::kind_of(a);
+    let k = registers::kind_of(e.a);
     accepted(access::after_read(d, k), access::read(d, k))
 }
 
-fn on_pins(d: Device, a: u32, b: u32, c: u32) -> Outcome {
-    if (255 < a) | (255 < b) | (15 < c) {
+// Other outside levels.
+fn with_outside(d: Device, a: u8, b: u8, c: u8) -> Device
+    ensures { λ r. ⌜ r ≡ outsideSet d a b c ⌝ }
+{
+    let qa = d.ports[0];
+    let qb = d.ports[1];
+    let qc = d.ports[2];
+    let ra = Port { outside: a, ..qa };
+    let rb = Port { outside: b, ..qb };
+    let rc = Port { outside: c, ..qc };
+    let mut e = d;
+    e.ports = [ra, rb, rc];
+    e
+}
+
+fn on_pins(d: Device, e: Event) -> Outcome
+    requires { ⌜ (soundOf d ≡ true) × (e .kind ≡ 3) ⌝ }
+    ensures { λ r. ⌜ r ≡ eventOf d e ⌝ }
+{
+    let a = e.a;
+    let b = e.b;
+    let c = e.c;
+    if 255 < a {
         return refused(5, d);
     }
-    let mut e = d;
-    e.ports[0].outside = a as u8;
-    e.ports[1].outside = b as u8;
-    e.ports[2].outside = c as u8;
-    let s = step::step(false, d, e);
+    if 255 < b {
+        return refused(5, d);
+    }
+    if 15 < c {
+        return refused(5, d);
+    }
+    let s = step::step(false, d, with_outside(d, a as u8, b as u8, c as u8));
     accepted(s.device, 0)
 }
 
-fn on_clocks(d: Device, n: u32) -> Outcome {
-    let s = runner::run(n, d);
-    let e = s.device;
+fn on_clocks(d: Device, e: Event) -> Outcome
+    requires { ⌜ (soundOf d ≡ true) × (e .kind ≡ 4) ⌝ }
+    ensures { λ r. ⌜ r ≡ eventOf d e ⌝ }
+{
+    let s = runner::run(e.a, d);
+    let after = s.device;
     let t = s.terminals;
     outcome(
         0,
         Done {
-            device: e,
+            device: after,
             value: 0,
             terminals: t,
         },
     )
 }
 
-fn on_acknowledge(d: Device) -> Outcome {
+fn on_acknowledge(d: Device, e: Event) -> Outcome
+    requires { ⌜ (soundOf d ≡ true) × (e .kind ≡ 5) ⌝ }
+    ensures { λ r. ⌜ r ≡ eventOf d e ⌝ }
+{
     let k = interrupts::requester_of(d);
     if k < 5 {
-        let s = sources::serve(d.sources[k]);
         let v = interrupts::acknowledge_by(d, k);
-        let mut e = d;
-        e.sources[k] = s;
-        return accepted(e, v);
+        let s = sources::serve(d.sources[k]);
+        let mut after = d;
+        after.sources[k] = s;
+        return accepted(after, v);
     }
     refused(6, d)
 }
 
-fn on_iei(d: Device, v: u32) -> Outcome {
+fn on_iei(d: Device, e: Event) -> Outcome
+    requires { ⌜ (soundOf d ≡ true) × (e .kind ≡ 6) ⌝ }
+    ensures { λ r. ⌜ r ≡ eventOf d e ⌝ }
+{
+    let v = e.a;
     if 1 < v {
         return refused(5, d);
     }
-    let mut e = d;
-    e.iei = v == 1;
-    accepted(e, 0)
+    let mut after = d;
+    after.iei = v == 1;
+    accepted(after, 0)
 }
 
-fn sound_event(d: Device, e: Event) -> Outcome {
+// The event of a sound record.
+fn sound_event(d: Device, e: Event) -> Outcome
+    requires { ⌜ soundOf d ≡ true ⌝ }
+    ensures { λ r. ⌜ r ≡ eventOf d e ⌝ }
+{
     let k = e.kind;
     match k {
-        0 => accepted(record::reset(d), 0),
-        1 => on_write(d, e.a, e.b),
-        2 => on_read(d, e.a),
-        3 => on_pins(d, e.a, e.b, e.c),
-        4 => on_clocks(d, e.a),
-        5 => on_acknowledge(d),
-        6 => on_iei(d, e.a),
+        0 => on_reset(d, e),
+        1 => on_write(d, e),
+        2 => on_read(d, e),
+        3 => on_pins(d, e),
+        4 => on_clocks(d, e),
+        5 => on_acknowledge(d, e),
+        6 => on_iei(d, e),
         _ => refused(1, d),
     }
 }
