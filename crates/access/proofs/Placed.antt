@@ -3,7 +3,6 @@
 use Prim.Native.Nat.{ℕ, _<_}
 use mathlib.Core.Path.{_≡_, refl}
 use mathlib.Core.Bool.{Bool, true, false}
-use mathlib.Core.Logic.{⊎-elim}
 use lib.Dec.{ltb, lit<, ltb→lt}
 use Rattle.rules.specs.Registers.{portKind, kindIn, kindOf}
 use Rattle.bits.proofs.Laws.{below}

@@ -45,7 +45,13 @@ fn requests_at(d: Device, k: usize) -> bool
 pub fn requester_of(d: Device) -> usize
     ensures { λ r. ⌜ (r ≡ requester d) × (r ≤ 5) ⌝ }
 {
-    sources::first(requests_at(d, 0), requests_at(d, 1), requests_at(d, 2), requests_at(d, 3), requests_at(d, 4))
+    sources::first(
+        requests_at(d, 0),
+        requests_at(d, 1),
+        requests_at(d, 2),
+        requests_at(d, 3),
+        requests_at(d, 4),
+    )
 }
 
 pub fn int(d: Device) -> bool
@@ -114,7 +120,13 @@ pub fn acknowledge_by(d: Device, k: usize) -> u8
 fn pending_counter(d: Device) -> usize
     ensures { λ r. ⌜ (r ≡ pendingCounter d) × (r ≤ 5) ⌝ }
 {
-    sources::first(pending_at(d, 0), false, pending_at(d, 2), false, pending_at(d, 4))
+    sources::first(
+        pending_at(d, 0),
+        false,
+        pending_at(d, 2),
+        false,
+        pending_at(d, 4),
+    )
 }
 
 // What a vector register reads.
@@ -146,7 +158,13 @@ pub fn current_vector(d: Device) -> u8
     if !(d.master / 128 % 2 == 1) {
         return 255;
     }
-    let k = sources::first(pending_at(d, 0), pending_at(d, 1), pending_at(d, 2), pending_at(d, 3), pending_at(d, 4));
+    let k = sources::first(
+        pending_at(d, 0),
+        pending_at(d, 1),
+        pending_at(d, 2),
+        pending_at(d, 3),
+        pending_at(d, 4),
+    );
     if k < 5 {
         return vector_for(d, k);
     }

@@ -112,8 +112,8 @@ module _ (was now : Ran) (p : ℕ) (few : length (was .terminals) ≡ 3) (as-few
   unfolding sums
   anchored =
       let counts : now .terminals ≡ sums gains (was .terminals) =
-        three (now .terminals) as-few
-        ∙ triple (omega (arith, gained 0 (lit< tt))) (omega (arith, gained 1 (lit< tt))) (omega (arith, gained 2 (lit< tt))) in
+      three (now .terminals) as-few
+      ∙ triple (omega (arith, gained 0 (lit< tt))) (omega (arith, gained 1 (lit< tt))) (omega (arith, gained 2 (lit< tt))) in
       λ k. record { device = back k; terminals = counts k }
 
   a-round : iterate p clockOf now ≡ onTop gains now
@@ -126,9 +126,9 @@ module _ (was now : Ran) (p : ℕ) (few : length (was .terminals) ≡ 3) (as-few
       (record {
         device = now .device;
         terminals = afterRounds q (getD (was .terminals) 0 0) (getD (now .terminals) 0 0)
-          ∷ afterRounds q (getD (was .terminals) 1 0) (getD (now .terminals) 1 0)
-          ∷ afterRounds q (getD (was .terminals) 2 0) (getD (now .terminals) 2 0)
-          ∷ [];
+            ∷ afterRounds q (getD (was .terminals) 1 0) (getD (now .terminals) 1 0)
+            ∷ afterRounds q (getD (was .terminals) 2 0) (getD (now .terminals) 2 0)
+            ∷ [];
       })
   whole q r =
       iterate-add (q * p) r clockOf now

@@ -110,5 +110,10 @@ fn reset_only(d: Device) -> bool
 pub fn sound(d: Device) -> bool
     ensures { λ r. ⌜ r ≡ soundOf d ⌝ }
 {
-    no_later(d) & sound_sources(d) & sound_counters(d) & sound_ports(d) & sound_patterns(d) & reset_only(d)
+    no_later(d)
+        & sound_sources(d)
+        & sound_counters(d)
+        & sound_ports(d)
+        & sound_patterns(d)
+        & reset_only(d)
 }

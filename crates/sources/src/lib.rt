@@ -67,7 +67,10 @@ pub fn command(s: Source, n: u8) -> Source
 pub fn status(s: Source) -> u8
     ensures { λ r. ⌜ (r ≡ statusOf s) × (r ≤ 240) ⌝ }
 {
-    bits::weight(s.ius, 128) + bits::weight(s.ie, 64) + bits::weight(s.ip, 32) + bits::weight(s.err, 16)
+    bits::weight(s.ius, 128)
+        + bits::weight(s.ie, 64)
+        + bits::weight(s.ip, 32)
+        + bits::weight(s.err, 16)
 }
 
 // An event comes to a source; `hides` says whether it may set the hidden error.

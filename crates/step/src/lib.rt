@@ -47,7 +47,11 @@ fn counter_turn(k: Link, timer: bool, were: u8, are: u8, i: usize, d: Device) ->
     ensures { λ t. ⌜ t ≡ counterTurn k timer were are i d ⌝ }
 {
     let c = d.counters[i];
-    turned_by(d, i, counters::turn(device::counter_on(d.config, i), c, k, timer, were, are))
+    turned_by(
+        d,
+        i,
+        counters::turn(device::counter_on(d.config, i), c, k, timer, were, are),
+    )
 }
 
 fn caught_at(d: Device, p: usize) -> Port
@@ -84,7 +88,11 @@ fn pattern_turn(p: usize, before: u8, d: Device) -> Device
     ensures { λ r. ⌜ r ≡ patternTurn p before d ⌝ }
 {
     let q = d.patterns[p];
-    matched_by(p, ports::matches(device::port_enabled(d, p), q, before, device::seen_at(d, p)), d)
+    matched_by(
+        p,
+        ports::matches(device::port_enabled(d, p), q, before, device::seen_at(d, p)),
+        d,
+    )
 }
 
 // Catchers and patterns.
@@ -104,11 +112,36 @@ pub fn step(timer: bool, d0: Device, d1: Device) -> Stepped
         only: false,
         count: false,
     };
-    let b = counter_turn(none, timer, device::lines_at(d0, 0), device::lines_at(d1, 0), 0, d1);
+    let b = counter_turn(
+        none,
+        timer,
+        device::lines_at(d0, 0),
+        device::lines_at(d1, 0),
+        0,
+        d1,
+    );
     let db = b.device;
-    let link = counters::link(d1.config % 4, counters::output(d0.counters[0]), counters::output(db.counters[0]));
-    let c = counter_turn(link, timer, device::lines_at(d0, 1), device::lines_at(d1, 1), 1, db);
-    let d = counter_turn(none, timer, device::lines_at(d0, 2), device::lines_at(d1, 2), 2, c.device);
+    let link = counters::link(
+        d1.config % 4,
+        counters::output(d0.counters[0]),
+        counters::output(db.counters[0]),
+    );
+    let c = counter_turn(
+        link,
+        timer,
+        device::lines_at(d0, 1),
+        device::lines_at(d1, 1),
+        1,
+        db,
+    );
+    let d = counter_turn(
+        none,
+        timer,
+        device::lines_at(d0, 2),
+        device::lines_at(d1, 2),
+        2,
+        c.device,
+    );
     Stepped {
         device: settle(device::seen_at(d0, 0), device::seen_at(d0, 1), d.device),
         terminals: [b.terminal, c.terminal, d.terminal],

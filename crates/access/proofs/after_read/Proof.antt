@@ -12,9 +12,6 @@ use Rattle.access.proofs.Inside.{inside}
 use borrow.Author.Needs.{needs}
 use Rattle.access.proofs.after_read.Statement.{statement}
 use Rattle.access.proofs.after_read.Tie as tie
-use Rattle.access.proofs.after_read.Reads as reads
-use Rattle.access.proofs.after_read.Lts as lts
-use Rattle.access.proofs.thaw.Reads as thaw-reads
 
 -- the arm `_`: by the kinds, of which one is not among its keys
 abbrev keys : List ℕ
@@ -42,25 +39,20 @@ rest (Transition p) d o = refl
 rest (Mask p) d o = refl
 rest Absent d o = refl
 
--- src/lib.rt:77:23
 enum-known-k : tie.Need-enum-known-k
 enum-known-k c = search needs
 
--- src/lib.rt:79:17
 returns : tie.Need-returns
 unfolding afterRead
 returns c = simp (c .before .before .k .given .1, c .if1 .taken)
 
--- src/lib.rt:81:13
 thaw-requires : tie.Need-thaw-requires
 thaw-requires c κs = inside (c .before .before .k .given .1) (c .before .before .before .before .pre)
 
--- src/lib.rt:72:1
 returns-2 : tie.Need-returns-2
 unfolding afterRead
 returns-2 c = simp (c .before .before .before .k .given .1, c .before .if1 .left, c .thaw .ensures)
 
--- src/lib.rt:72:1
 returns-3 : tie.Need-returns-3
 returns-3 c = rest (c .before .args .k) (c .before .args .d) (c .match .keys2)
 

@@ -2,65 +2,47 @@ use Rattle.rules.specs.Access.{counterCommanded}
 use borrow.Author.Needs.{needs}
 use Rattle.access.proofs.command_counter.Statement.{statement}
 use Rattle.access.proofs.command_counter.Tie as tie
-use Rattle.access.proofs.command_counter.Reads as reads
-use Rattle.access.proofs.command_counter.Lts as lts
-use Rattle.counters.proofs.command.Reads as command-reads
-use Rattle.device.proofs.counter_on.Reads as counter-on-reads
 use Rattle.sources.proofs.command.Reads as command-reads′
 
--- src/lib.rt:162:17
 mul-k : tie.Need-mul-k
 mul-k c = search needs
 
--- src/lib.rt:162:13
 sub-k : tie.Need-sub-k
 sub-k c = search needs
 
--- src/lib.rt:163:30
 mul-command : tie.Need-mul-command
 mul-command c = search needs
 
--- src/lib.rt:163:30
 element-copy-out-command : tie.Need-element-copy-out-command
 element-copy-out-command c = search needs
 
--- src/lib.rt:163:9
 command-requires : tie.Need-command-requires
 command-requires c κs = search needs
 
--- src/lib.rt:164:31
 counter-on-requires : tie.Need-counter-on-requires
 counter-on-requires c κs = search needs
 
--- src/lib.rt:164:67
 mul-command-2 : tie.Need-mul-command-2
 mul-command-2 c = search needs
 
--- src/lib.rt:164:67
 element-copy-out-command-2 : tie.Need-element-copy-out-command-2
 element-copy-out-command-2 c = search needs
 
--- src/lib.rt:164:9
 command-requires-2 : tie.Need-command-requires-2
 command-requires-2 c κs = search needs
 
--- src/lib.rt:166:5
 mul-c : tie.Need-mul-c
 mul-c c = search needs
 
--- src/lib.rt:166:5
 element-set-from-c : tie.Need-element-set-from-c
 element-set-from-c c = search needs
 
--- src/lib.rt:167:5
 mul-s : tie.Need-mul-s
 mul-s c = search needs
 
--- src/lib.rt:167:5
 element-set-from-s : tie.Need-element-set-from-s
 element-set-from-s c = search needs
 
--- src/lib.rt:158:1
 returns : tie.Need-returns
 unfolding counterCommanded
 returns c = simp (c .before .before .before .command .ensures, c .command2 .ensures, c .before .before .counter-on .ensures)

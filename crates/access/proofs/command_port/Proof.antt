@@ -3,47 +3,34 @@ use Rattle.rules.specs.Access.{portCommanded}
 use borrow.Author.Needs.{needs}
 use Rattle.access.proofs.command_port.Statement.{statement}
 use Rattle.access.proofs.command_port.Tie as tie
-use Rattle.access.proofs.command_port.Reads as reads
-use Rattle.access.proofs.command_port.Lts as lts
-use Rattle.sources.proofs.command.Reads as command-reads
 
--- src/lib.rt:150:17
 mul-k : tie.Need-mul-k
 mul-k c = search needs
 
--- src/lib.rt:150:13
 add-k : tie.Need-add-k
 add-k c = search needs
 
--- src/lib.rt:151:30
 mul-command : tie.Need-mul-command
 mul-command c = search needs
 
--- src/lib.rt:151:30
 element-copy-out-command : tie.Need-element-copy-out-command
 element-copy-out-command c = search needs
 
--- src/lib.rt:151:9
 command-requires : tie.Need-command-requires
 command-requires c κs = search needs
 
--- src/lib.rt:153:5
 mul-e : tie.Need-mul-e
 mul-e c = search needs
 
--- src/lib.rt:153:5
 way-write-given-e : tie.Need-way-write-given-e
 way-write-given-e c = search needs
 
--- src/lib.rt:154:5
 mul-s : tie.Need-mul-s
 mul-s c = search needs
 
--- src/lib.rt:154:5
 element-set-from-s : tie.Need-element-set-from-s
 element-set-from-s c = search needs
 
--- src/lib.rt:146:1
 returns : tie.Need-returns
 unfolding portCommanded
 returns c = simp (c .before .command .ensures, div-one)

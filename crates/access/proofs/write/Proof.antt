@@ -3,256 +3,184 @@ use Rattle.rules.specs.Access.{writtenOf}
 use borrow.Author.Needs.{needs}
 use Rattle.access.proofs.write.Statement.{statement}
 use Rattle.access.proofs.write.Tie as tie
-use Rattle.access.proofs.write.Reads as reads
-use Rattle.access.proofs.write.Lts as lts
-use Rattle.access.proofs.command_counter.Reads as command-counter-reads
-use Rattle.access.proofs.command_port.Reads as command-port-reads
-use Rattle.access.proofs.write_config.Reads as write-config-reads
-use Rattle.access.proofs.write_constant.Reads as write-constant-reads
-use Rattle.access.proofs.write_data.Reads as write-data-reads
-use Rattle.access.proofs.write_direction.Reads as write-direction-reads
-use Rattle.access.proofs.write_handshake.Reads as write-handshake-reads
-use Rattle.access.proofs.write_mask.Reads as write-mask-reads
-use Rattle.access.proofs.write_master.Reads as write-master-reads
-use Rattle.access.proofs.write_mode.Reads as write-mode-reads
-use Rattle.access.proofs.write_pattern_polarity.Reads as write-pattern-polarity-reads
-use Rattle.access.proofs.write_polarity.Reads as write-polarity-reads
-use Rattle.access.proofs.write_port_mode.Reads as write-port-mode-reads
-use Rattle.access.proofs.write_special.Reads as write-special-reads
-use Rattle.access.proofs.write_transition.Reads as write-transition-reads
-use Rattle.access.proofs.write_vector.Reads as write-vector-reads
 
--- src/lib.rt:251:25
 enum-told : tie.Need-enum-told
 enum-told c = search needs
 
--- src/lib.rt:251:25
 write-master-requires : tie.Need-write-master-requires
 write-master-requires c κs = search needs
 
--- src/lib.rt:252:25
 enum-told-2 : tie.Need-enum-told-2
 enum-told-2 c = search needs
 
--- src/lib.rt:252:25
 write-config-requires : tie.Need-write-config-requires
 write-config-requires c κs = search needs
 
--- src/lib.rt:253:22
 enum-known-k : tie.Need-enum-known-k
 enum-known-k c = search needs
 
--- src/lib.rt:253:28
 write-vector-requires : tie.Need-write-vector-requires
 write-vector-requires c κs = inside (c .before .k .given .1) (c .before .before .before .pre)
 
--- src/lib.rt:254:24
 enum-known-k-2 : tie.Need-enum-known-k-2
 enum-known-k-2 c = search needs
 
--- src/lib.rt:254:30
 write-polarity-requires : tie.Need-write-polarity-requires
 write-polarity-requires c κs = inside (c .before .k2 .given .1) (c .before .before .before .pre)
 
--- src/lib.rt:255:25
 enum-known-k-3 : tie.Need-enum-known-k-3
 enum-known-k-3 c = search needs
 
--- src/lib.rt:255:31
 write-direction-requires : tie.Need-write-direction-requires
 write-direction-requires c κs = inside (c .before .k3 .given .1) (c .before .before .before .pre)
 
--- src/lib.rt:256:23
 enum-known-k-4 : tie.Need-enum-known-k-4
 enum-known-k-4 c = search needs
 
--- src/lib.rt:256:29
 write-special-requires : tie.Need-write-special-requires
 write-special-requires c κs = inside (c .before .k4 .given .1) (c .before .before .before .pre)
 
--- src/lib.rt:257:27
 enum-known-k-5 : tie.Need-enum-known-k-5
 enum-known-k-5 c = search needs
 
--- src/lib.rt:257:33
 command-port-requires : tie.Need-command-port-requires
 command-port-requires c κs = inside (c .before .k5 .given .1) (c .before .before .before .pre)
 
--- src/lib.rt:258:30
 enum-known-k-6 : tie.Need-enum-known-k-6
 enum-known-k-6 c = search needs
 
--- src/lib.rt:258:36
 command-counter-requires : tie.Need-command-counter-requires
 command-counter-requires c κs = inside (c .before .k6 .given .1) (c .before .before .before .pre)
 
--- src/lib.rt:259:20
 enum-known-k-7 : tie.Need-enum-known-k-7
 enum-known-k-7 c = search needs
 
--- src/lib.rt:259:26
 write-data-requires : tie.Need-write-data-requires
 write-data-requires c κs = inside (c .before .k7 .given .1) (c .before .before .before .pre)
 
--- src/lib.rt:260:32
 enum-told-3 : tie.Need-enum-told-3
 enum-told-3 c = search needs
 
--- src/lib.rt:261:24
 enum-known-k-8 : tie.Need-enum-known-k-8
 enum-known-k-8 c = search needs
 
--- src/lib.rt:261:36
 write-constant-requires : tie.Need-write-constant-requires
 write-constant-requires c κs = inside (c .before .k8 .given .1) (c .before .before .before .pre)
 
--- src/lib.rt:262:27
 enum-known-k-9 : tie.Need-enum-known-k-9
 enum-known-k-9 c = search needs
 
--- src/lib.rt:262:33
 write-mode-requires : tie.Need-write-mode-requires
 write-mode-requires c κs = inside (c .before .k9 .given .1) (c .before .before .before .pre)
 
--- src/lib.rt:263:32
 enum-told-4 : tie.Need-enum-told-4
 enum-told-4 c = search needs
 
--- src/lib.rt:264:24
 enum-known-k-10 : tie.Need-enum-known-k-10
 enum-known-k-10 c = search needs
 
--- src/lib.rt:264:30
 write-port-mode-requires : tie.Need-write-port-mode-requires
 write-port-mode-requires c κs = inside (c .before .k10 .given .1) (c .before .before .before .pre)
 
--- src/lib.rt:265:25
 enum-known-k-11 : tie.Need-enum-known-k-11
 enum-known-k-11 c = search needs
 
--- src/lib.rt:265:31
 write-handshake-requires : tie.Need-write-handshake-requires
 write-handshake-requires c κs = inside (c .before .k11 .given .1) (c .before .before .before .pre)
 
--- src/lib.rt:266:31
 enum-known-k-12 : tie.Need-enum-known-k-12
 enum-known-k-12 c = search needs
 
--- src/lib.rt:266:37
 write-pattern-polarity-requires : tie.Need-write-pattern-polarity-requires
 write-pattern-polarity-requires c κs = inside (c .before .k12 .given .1) (c .before .before .before .pre)
 
--- src/lib.rt:267:26
 enum-known-k-13 : tie.Need-enum-known-k-13
 enum-known-k-13 c = search needs
 
--- src/lib.rt:267:32
 write-transition-requires : tie.Need-write-transition-requires
 write-transition-requires c κs = inside (c .before .k13 .given .1) (c .before .before .before .pre)
 
--- src/lib.rt:268:20
 enum-known-k-14 : tie.Need-enum-known-k-14
 enum-known-k-14 c = search needs
 
--- src/lib.rt:268:26
 write-mask-requires : tie.Need-write-mask-requires
 write-mask-requires c κs = inside (c .before .k14 .given .1) (c .before .before .before .pre)
 
--- src/lib.rt:269:25
 enum-told-5 : tie.Need-enum-told-5
 enum-told-5 c = search needs
 
--- src/lib.rt:246:1
 returns : tie.Need-returns
 unfolding writtenOf
 returns c = simp (c .before .enum-told .given .1, c .write-master .ensures)
 
--- src/lib.rt:246:1
 returns-2 : tie.Need-returns-2
 unfolding writtenOf
 returns-2 c = simp (c .before .enum-told2 .given .1, c .write-config .ensures)
 
--- src/lib.rt:246:1
 returns-3 : tie.Need-returns-3
 unfolding writtenOf
 returns-3 c = simp (c .before .before .k .given .1, c .write-vector .ensures)
 
--- src/lib.rt:246:1
 returns-4 : tie.Need-returns-4
 unfolding writtenOf
 returns-4 c = simp (c .before .before .k2 .given .1, c .write-polarity .ensures)
 
--- src/lib.rt:246:1
 returns-5 : tie.Need-returns-5
 unfolding writtenOf
 returns-5 c = simp (c .before .before .k3 .given .1, c .write-direction .ensures)
 
--- src/lib.rt:246:1
 returns-6 : tie.Need-returns-6
 unfolding writtenOf
 returns-6 c = simp (c .before .before .k4 .given .1, c .write-special .ensures)
 
--- src/lib.rt:246:1
 returns-7 : tie.Need-returns-7
 unfolding writtenOf
 returns-7 c = simp (c .before .before .k5 .given .1, c .command-port .ensures)
 
--- src/lib.rt:246:1
 returns-8 : tie.Need-returns-8
 unfolding writtenOf
 returns-8 c = simp (c .before .before .k6 .given .1, c .command-counter .ensures)
 
--- src/lib.rt:246:1
 returns-9 : tie.Need-returns-9
 unfolding writtenOf
 returns-9 c = simp (c .before .before .k7 .given .1, c .write-data .ensures)
 
--- src/lib.rt:246:1
 returns-10 : tie.Need-returns-10
 unfolding writtenOf
 returns-10 c = simp (c .enum-told3 .given .1)
 
--- src/lib.rt:246:1
 returns-11 : tie.Need-returns-11
 unfolding writtenOf
 returns-11 c = simp (c .before .before .k8 .given .1, c .write-constant .ensures)
 
--- src/lib.rt:246:1
 returns-12 : tie.Need-returns-12
 unfolding writtenOf
 returns-12 c = simp (c .before .before .k9 .given .1, c .write-mode .ensures)
 
--- src/lib.rt:246:1
 returns-13 : tie.Need-returns-13
 unfolding writtenOf
 returns-13 c = simp (c .enum-told4 .given .1)
 
--- src/lib.rt:246:1
 returns-14 : tie.Need-returns-14
 unfolding writtenOf
 returns-14 c = simp (c .before .before .k10 .given .1, c .write-port-mode .ensures)
 
--- src/lib.rt:246:1
 returns-15 : tie.Need-returns-15
 unfolding writtenOf
 returns-15 c = simp (c .before .before .k11 .given .1, c .write-handshake .ensures)
 
--- src/lib.rt:246:1
 returns-16 : tie.Need-returns-16
 unfolding writtenOf
 returns-16 c = simp (c .before .before .k12 .given .1, c .write-pattern-polarity .ensures)
 
--- src/lib.rt:246:1
 returns-17 : tie.Need-returns-17
 unfolding writtenOf
 returns-17 c = simp (c .before .before .k13 .given .1, c .write-transition .ensures)
 
--- src/lib.rt:246:1
 returns-18 : tie.Need-returns-18
 unfolding writtenOf
 returns-18 c = simp (c .before .before .k14 .given .1, c .write-mask .ensures)
 
--- src/lib.rt:246:1
 returns-19 : tie.Need-returns-19
 unfolding writtenOf
 returns-19 c = simp (c .enum-told5 .given .1)

@@ -1,23 +1,17 @@
 use native.Mathlib.Nat.{div-one}
-use borrow.Author.Tests.{eq-eqb, ne-eqb, lt-ltb, le-ltb}
+use borrow.Author.Tests.{eq-eqb, ne-eqb}
 use Rattle.rules.specs.Access.{masterWritten}
 use borrow.Author.Needs.{needs}
 use Rattle.access.proofs.write_master.Statement.{statement}
 use Rattle.access.proofs.write_master.Tie as tie
-use Rattle.access.proofs.write_master.Reads as reads
-use Rattle.access.proofs.write_master.Lts as lts
-use Rattle.record.proofs.reset.Reads as reset-reads
 
--- src/lib.rt:91:9
 reset-requires : tie.Need-reset-requires
 reset-requires c κs = search needs
 
--- src/lib.rt:91:9
 returns : tie.Need-returns
 unfolding masterWritten
 returns c = simp (c .reset .ensures, div-one, eq-eqb _ _ (c .before .if1 .taken))
 
--- src/lib.rt:87:1
 returns-2 : tie.Need-returns-2
 unfolding masterWritten
 returns-2 c = simp (div-one, ne-eqb _ _ (c .if1 .left))

@@ -1,32 +1,24 @@
-use Rattle.rules.specs.Byte.{byteIn, withByte}
+use Rattle.rules.specs.Byte.{withByte}
 use borrow.Author.Needs.{needs}
 use Rattle.bits.proofs.with_byte.Statement.{statement}
 use Rattle.bits.proofs.with_byte.Tie as tie
-use Rattle.bits.proofs.with_byte.Reads as reads
-use Rattle.bits.proofs.with_byte.Lts as lts
 
--- src/lib.rt:29:16
 mul-result : tie.Need-mul-result
 mul-result c = search needs
 
--- src/lib.rt:29:16
 add-result : tie.Need-add-result
 add-result c = search needs
 
--- src/lib.rt:29:9
 returns : tie.Need-returns
 unfolding withByte
 returns c = simp (c .if1 .taken)
 
--- src/lib.rt:31:5
 mul-result-2 : tie.Need-mul-result-2
 mul-result-2 c = search needs
 
--- src/lib.rt:31:5
 add-result-2 : tie.Need-add-result-2
 add-result-2 c = search needs
 
--- src/lib.rt:25:1
 returns-2 : tie.Need-returns-2
 unfolding withByte
 returns-2 c = simp (c .if1 .left)

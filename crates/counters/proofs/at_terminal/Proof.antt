@@ -2,20 +2,15 @@ use borrow.Author.Tests.{eq-eqb, ne-eqb}
 use Rattle.rules.specs.Counters.{terminalOf}
 use Rattle.counters.proofs.at_terminal.Statement.{statement}
 use Rattle.counters.proofs.at_terminal.Tie as tie
-use Rattle.counters.proofs.at_terminal.Reads as reads
-use Rattle.counters.proofs.at_terminal.Lts as lts
 
--- src/lib.rt:40:9
 returns : tie.Need-returns
 unfolding terminalOf
 returns c = simp (c .if1 .taken)
 
--- src/lib.rt:45:9
 returns-2 : tie.Need-returns-2
 unfolding terminalOf
 returns-2 c = simp (c .before .before .if1 .left, eq-eqb _ _ (c .if2 .taken))
 
--- src/lib.rt:33:1
 returns-3 : tie.Need-returns-3
 unfolding terminalOf
 returns-3 c = simp (c .before .before .if1 .left, ne-eqb _ _ (c .if2 .left))

@@ -2,20 +2,15 @@ use borrow.Author.Tests.{eq-eqb, ne-eqb}
 use Rattle.rules.specs.Counters.{reachOf}
 use Rattle.counters.proofs.count_source.Statement.{statement}
 use Rattle.counters.proofs.count_source.Tie as tie
-use Rattle.counters.proofs.count_source.Reads as reads
-use Rattle.counters.proofs.count_source.Lts as lts
 
--- src/lib.rt:101:9
 returns : tie.Need-returns
 unfolding reachOf
 returns c = simp (c .if1 .taken)
 
--- src/lib.rt:104:9
 returns-2 : tie.Need-returns-2
 unfolding reachOf
 returns-2 c = rw (c .before .before .if1 .left, eq-eqb _ _ (c .if2 .taken))
 
--- src/lib.rt:97:1
 returns-3 : tie.Need-returns-3
 unfolding reachOf
 returns-3 c = simp (c .before .before .if1 .left, ne-eqb _ _ (c .if2 .left))

@@ -1,15 +1,11 @@
 use Rattle.rules.specs.Counters.{enabledBy}
 use Rattle.counters.proofs.enable.Statement.{statement}
 use Rattle.counters.proofs.enable.Tie as tie
-use Rattle.counters.proofs.enable.Reads as reads
-use Rattle.counters.proofs.enable.Lts as lts
 
--- src/lib.rt:200:9
 returns : tie.Need-returns
 unfolding enabledBy
 returns c = simp (c .if1 .taken)
 
--- src/lib.rt:196:1
 returns-2 : tie.Need-returns-2
 unfolding enabledBy
 returns-2 c = simp (c .if1 .left)

@@ -1,11 +1,8 @@
-use mathlib.Core.Path.{_≡_, refl, sym, ap, _∙_}
+use mathlib.Core.Path.{refl}
 use Rattle.rules.specs.Counters.{loaded}
 use Rattle.counters.proofs.load.Statement.{statement}
 use Rattle.counters.proofs.load.Tie as tie
-use Rattle.counters.proofs.load.Reads as reads
-use Rattle.counters.proofs.load.Lts as lts
 
--- src/lib.rt:16:1
 returns : tie.Need-returns
 unfolding loaded
 returns c = refl

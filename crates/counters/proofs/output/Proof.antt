@@ -1,23 +1,18 @@
-use mathlib.Core.Path.{_≡_, refl, sym, ap, _∙_}
+use mathlib.Core.Path.{sym}
 use mathlib.Core.Bool.{and-true}
 use borrow.Author.Tests.{eq-eqb, ne-eqb}
 use Rattle.rules.specs.Counters.{outputOf}
 use Rattle.counters.proofs.output.Statement.{statement}
 use Rattle.counters.proofs.output.Tie as tie
-use Rattle.counters.proofs.output.Reads as reads
-use Rattle.counters.proofs.output.Lts as lts
 
--- src/lib.rt:75:9
 returns : tie.Need-returns
 unfolding outputOf
 returns c = simp (eq-eqb _ _ (c .before .before .if1 .taken))
 
--- src/lib.rt:78:9
 returns-2 : tie.Need-returns-2
 unfolding outputOf
 returns-2 c = simp (ne-eqb _ _ (c .before .if1 .left), eq-eqb _ _ (c .if2 .taken)) (sym (and-true _))
 
--- src/lib.rt:70:1
 returns-3 : tie.Need-returns-3
 unfolding outputOf
 returns-3 c = simp (ne-eqb _ _ (c .before .before .if1 .left), ne-eqb _ _ (c .before .if2 .left))

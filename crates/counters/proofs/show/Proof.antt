@@ -1,15 +1,11 @@
 use Rattle.rules.specs.Counters.{shown}
 use Rattle.counters.proofs.show.Statement.{statement}
 use Rattle.counters.proofs.show.Tie as tie
-use Rattle.counters.proofs.show.Reads as reads
-use Rattle.counters.proofs.show.Lts as lts
 
--- src/lib.rt:190:9
 returns : tie.Need-returns
 unfolding shown
 returns c = simp (c .if1 .taken)
 
--- src/lib.rt:186:1
 returns-2 : tie.Need-returns-2
 unfolding shown
 returns-2 c = simp (c .if1 .left)

@@ -1,27 +1,18 @@
-use mathlib.Core.Path.{_≡_, refl, sym, ap, _∙_}
 use Rattle.rules.specs.Counters.{triggeredBy}
 use borrow.Author.Needs.{needs}
 use Rattle.counters.proofs.trigger.Statement.{statement}
 use Rattle.counters.proofs.trigger.Tie as tie
-use Rattle.counters.proofs.trigger.Reads as reads
-use Rattle.counters.proofs.trigger.Lts as lts
-use Rattle.counters.proofs.load.Reads as load-reads
-use Rattle.counters.proofs.takes_trigger.Reads as takes-trigger-reads
 
--- src/lib.rt:160:12
 takes-trigger-requires : tie.Need-takes-trigger-requires
 takes-trigger-requires c κs = search needs
 
--- src/lib.rt:161:9
 load-requires : tie.Need-load-requires
 load-requires c κs = search needs
 
--- src/lib.rt:161:9
 returns : tie.Need-returns
 unfolding triggeredBy
 returns c = simp (c .load .ensures, ← c .before .before .takes-trigger .ensures, c .before .if1 .taken)
 
--- src/lib.rt:157:1
 returns-2 : tie.Need-returns-2
 unfolding triggeredBy
 returns-2 c = simp (← c .before .takes-trigger .ensures, c .if1 .left)

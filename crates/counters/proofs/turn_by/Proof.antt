@@ -2,35 +2,24 @@ use Rattle.rules.specs.Counters.{turnOf, counts}
 use borrow.Author.Needs.{needs}
 use Rattle.counters.proofs.turn_by.Statement.{statement}
 use Rattle.counters.proofs.turn_by.Tie as tie
-use Rattle.counters.proofs.turn_by.Reads as reads
-use Rattle.counters.proofs.turn_by.Lts as lts
-use Rattle.counters.proofs.count.Reads as count-reads
-use Rattle.counters.proofs.load.Reads as load-reads
-use Rattle.counters.proofs.takes_trigger.Reads as takes-trigger-reads
 
--- src/lib.rt:123:20
 takes-trigger-requires : tie.Need-takes-trigger-requires
 takes-trigger-requires c κs = search needs
 
--- src/lib.rt:125:22
 load-requires : tie.Need-load-requires
 load-requires c κs = search needs
 
--- src/lib.rt:124:9
 returns : tie.Need-returns
 unfolding turnOf counts
 returns c = simp (c .load .ensures, ← c .before .before .before .takes-trigger .ensures, c .before .if1 .taken)
 
--- src/lib.rt:130:9
 count-requires : tie.Need-count-requires
 count-requires c κs = search needs
 
--- src/lib.rt:130:9
 returns-2 : tie.Need-returns-2
 unfolding turnOf counts
 returns-2 c = simp (← c .before .before .before .before .before .before .before .before .takes-trigger .ensures, c .before .before .before .before .before .before .if1 .left, c .before .if2 .taken, c .count .ensures)
 
--- src/lib.rt:120:1
 returns-3 : tie.Need-returns-3
 unfolding turnOf counts
 returns-3 c = simp (← c .before .before .before .before .before .before .before .takes-trigger .ensures, c .before .before .before .before .before .if1 .left, c .if2 .left)

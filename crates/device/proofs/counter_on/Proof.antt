@@ -1,22 +1,17 @@
 use native.Mathlib.Omega.{arith}
-use mathlib.Core.Path.{_≡_, refl, sym, ap, _∙_}
+use mathlib.Core.Path.{_≡_}
 use Rattle.rules.specs.Registers.{counterOn}
 use Rattle.device.proofs.counter_on.Statement.{statement}
 use Rattle.device.proofs.counter_on.Tie as tie
-use Rattle.device.proofs.counter_on.Reads as reads
-use Rattle.device.proofs.counter_on.Lts as lts
 
--- src/lib.rt:27:9
 returns : tie.Need-returns
 unfolding counterOn
 returns c = simp (c .if1 .taken)
 
--- src/lib.rt:30:9
 returns-2 : tie.Need-returns-2
 unfolding counterOn
 returns-2 c = simp (c .if2 .taken)
 
--- src/lib.rt:22:1
 returns-3 : tie.Need-returns-3
 unfolding counterOn
 returns-3 c = let e : c .before .before .args .i ≡ 2 = omega arith in simp e

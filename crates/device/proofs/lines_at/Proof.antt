@@ -1,35 +1,26 @@
-use borrow.Author.Tests.{eq-eqb, ne-eqb, lt-ltb, le-ltb}
+use borrow.Author.Tests.{ne-eqb}
 use Rattle.rules.specs.Step.{linesAt}
 use borrow.Author.Needs.{needs}
 use Rattle.device.proofs.lines_at.Statement.{statement}
 use Rattle.device.proofs.lines_at.Tie as tie
-use Rattle.device.proofs.lines_at.Reads as reads
-use Rattle.device.proofs.lines_at.Lts as lts
-use Rattle.device.proofs.path_at.Reads as path-at-reads
 
--- src/lib.rt:95:16
 path-at-requires : tie.Need-path-at-requires
 path-at-requires c κs = search needs
 
--- src/lib.rt:95:9
 returns : tie.Need-returns
 unfolding linesAt
 returns c = simp (c .path-at .ensures, c .before .if1 .taken)
 
--- src/lib.rt:98:16
 path-at-requires-2 : tie.Need-path-at-requires-2
 path-at-requires-2 c κs = search needs
 
--- src/lib.rt:98:9
 returns-2 : tie.Need-returns-2
 unfolding linesAt
 returns-2 c = simp (c .path-at2 .ensures, c .before .if2 .taken)
 
--- src/lib.rt:100:5
 path-at-requires-3 : tie.Need-path-at-requires-3
 path-at-requires-3 c κs = search needs
 
--- src/lib.rt:90:1
 returns-3 : tie.Need-returns-3
 unfolding linesAt
 returns-3 c = simp (c .path-at3 .ensures, ne-eqb _ _ (c .before .before .if1 .left), ne-eqb _ _ (c .before .if2 .left))

@@ -1,21 +1,16 @@
-use borrow.Author.Tests.{eq-eqb, ne-eqb, lt-ltb, le-ltb}
+use borrow.Author.Tests.{ne-eqb}
 use Rattle.rules.specs.Registers.{portEnabled}
 use Rattle.device.proofs.port_enabled.Statement.{statement}
 use Rattle.device.proofs.port_enabled.Tie as tie
-use Rattle.device.proofs.port_enabled.Reads as reads
-use Rattle.device.proofs.port_enabled.Lts as lts
 
--- src/lib.rt:13:9
 returns : tie.Need-returns
 unfolding portEnabled
 returns c = simp (c .before .if1 .taken)
 
--- src/lib.rt:16:9
 returns-2 : tie.Need-returns-2
 unfolding portEnabled
 returns-2 c = simp (c .before .if2 .taken)
 
--- src/lib.rt:9:1
 returns-3 : tie.Need-returns-3
 unfolding portEnabled
 returns-3 c = simp (ne-eqb _ _ (c .before .before .if1 .left), ne-eqb _ _ (c .before .if2 .left))

@@ -1,55 +1,41 @@
-use borrow.Author.Tests.{eq-eqb, ne-eqb, lt-ltb, le-ltb}
+use borrow.Author.Tests.{ne-eqb}
 use Rattle.rules.specs.PortData.{valueAt}
 use borrow.Author.Needs.{needs}
 use Rattle.device.proofs.value_at.Statement.{statement}
 use Rattle.device.proofs.value_at.Tie as tie
-use Rattle.device.proofs.value_at.Reads as reads
-use Rattle.device.proofs.value_at.Lts as lts
-use Rattle.ports.proofs.stand.Reads as stand-reads
 
--- src/lib.rt:40:13
 mul-x : tie.Need-mul-x
 mul-x c = search needs
 
--- src/lib.rt:40:9
 element-copy-out-x : tie.Need-element-copy-out-x
 element-copy-out-x c = search needs
 
--- src/lib.rt:42:9
 returns : tie.Need-returns
 unfolding valueAt
 returns c = simp (c .if1 .taken)
 
--- src/lib.rt:45:18
 element-copy-out-c1 : tie.Need-element-copy-out-c1
 element-copy-out-c1 c = search needs
 
--- src/lib.rt:46:18
 element-copy-out-c2 : tie.Need-element-copy-out-c2
 element-copy-out-c2 c = search needs
 
--- src/lib.rt:47:39
 stand-requires : tie.Need-stand-requires
 stand-requires c κs = search needs
 
--- src/lib.rt:47:9
 stand-requires-2 : tie.Need-stand-requires-2
 stand-requires-2 c κs = search needs
 
--- src/lib.rt:47:9
 returns-2 : tie.Need-returns-2
 unfolding valueAt
 returns-2 c = simp (c .stand2 .ensures, c .before .stand .ensures, c .before .before .before .before .if2 .taken)
 
--- src/lib.rt:49:14
 element-copy-out-c3 : tie.Need-element-copy-out-c3
 element-copy-out-c3 c = search needs
 
--- src/lib.rt:50:5
 stand-requires-3 : tie.Need-stand-requires-3
 stand-requires-3 c κs = search needs
 
--- src/lib.rt:36:1
 returns-3 : tie.Need-returns-3
 unfolding valueAt
 returns-3 c = simp (c .stand3 .ensures, ne-eqb _ _ (c .before .before .before .if1 .left), ne-eqb _ _ (c .before .before .if2 .left))

@@ -1,23 +1,16 @@
-use mathlib.Core.Path.{_≡_, refl, sym, ap, _∙_}
+use mathlib.Core.Path.{sym, _∙_}
 use Rattle.event.proofs.Ways.{accepts, code-clocks, clocks-done}
 use Rattle.rules.specs.Events.{clocksDone}
 use borrow.Author.Needs.{needs}
 use Rattle.event.proofs.on_clocks.Statement.{statement}
 use Rattle.event.proofs.on_clocks.Tie as tie
-use Rattle.event.proofs.on_clocks.Reads as reads
-use Rattle.event.proofs.on_clocks.Lts as lts
-use Rattle.event.proofs.outcome.Reads as outcome-reads
-use Rattle.runner.proofs.run.Reads as run-reads
 
--- src/lib.rt:147:9
 run-requires : tie.Need-run-requires
 run-requires c κs = search needs
 
--- src/lib.rt:150:5
 outcome-requires : tie.Need-outcome-requires
 outcome-requires c κs = search needs
 
--- src/lib.rt:143:1
 returns : tie.Need-returns
 unfolding clocksDone
 returns c = c .outcome .ensures ∙ accepts _ _ (code-clocks _ _ (c .before .before .before .before .pre .0) (c .before .before .before .before .pre .1)) (simp (c .before .before .before .run .ensures) (sym (clocks-done _ _ (c .before .before .before .before .pre .1))))

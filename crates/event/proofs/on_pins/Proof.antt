@@ -1,69 +1,50 @@
-use borrow.Author.Tests.{eq-eqb, ne-eqb, lt-ltb, le-ltb}
-use mathlib.Core.Path.{_≡_, refl, sym, ap, _∙_}
+use borrow.Author.Tests.{lt-ltb, le-ltb}
+use mathlib.Core.Path.{refl, sym, _∙_}
 use Rattle.event.proofs.Ways.{refuses, accepts, code-pins, pins-done}
 use Rattle.rules.specs.Events.{pinsDone}
 use borrow.Author.Needs.{needs}
 use Rattle.event.proofs.on_pins.Statement.{statement}
 use Rattle.event.proofs.on_pins.Tie as tie
-use Rattle.event.proofs.on_pins.Reads as reads
-use Rattle.event.proofs.on_pins.Lts as lts
-use Rattle.event.proofs.accepted.Reads as accepted-reads
-use Rattle.event.proofs.refused.Reads as refused-reads
-use Rattle.event.proofs.with_outside.Reads as with-outside-reads
-use Rattle.step.proofs.step.Reads as step-reads
 
--- src/lib.rt:131:9
 refused-requires : tie.Need-refused-requires
 refused-requires c κs = search needs
 
--- src/lib.rt:131:9
 returns : tie.Need-returns
 unfolding pinsDone
 returns c = c .refused .ensures ∙ refuses _ _ 5 (code-pins _ _ (c .before .before .pre .0) (c .before .before .pre .1) ∙ (simp (lt-ltb _ _ (c .before .if1 .taken)))) refl refl
 
--- src/lib.rt:134:9
 refused-requires-2 : tie.Need-refused-requires-2
 refused-requires-2 c κs = search needs
 
--- src/lib.rt:134:9
 returns-2 : tie.Need-returns-2
 unfolding pinsDone
 returns-2 c = c .refused2 .ensures ∙ refuses _ _ 5 (code-pins _ _ (c .before .before .before .pre .0) (c .before .before .before .pre .1) ∙ (simp (le-ltb _ _ (c .before .before .if1 .left), lt-ltb _ _ (c .before .if2 .taken)))) refl refl
 
--- src/lib.rt:137:9
 refused-requires-3 : tie.Need-refused-requires-3
 refused-requires-3 c κs = search needs
 
--- src/lib.rt:137:9
 returns-3 : tie.Need-returns-3
 unfolding pinsDone
 returns-3 c = c .refused3 .ensures ∙ refuses _ _ 5 (code-pins _ _ (c .before .before .before .before .pre .0) (c .before .before .before .before .pre .1) ∙ (simp (le-ltb _ _ (c .before .before .before .if1 .left), le-ltb _ _ (c .before .before .if2 .left), lt-ltb _ _ (c .before .if3 .taken)))) refl refl
 
--- src/lib.rt:139:50
 cast-with-outside : tie.Need-cast-with-outside
 cast-with-outside c = search needs
 
--- src/lib.rt:139:59
 cast-with-outside-2 : tie.Need-cast-with-outside-2
 cast-with-outside-2 c = search needs
 
--- src/lib.rt:139:68
 cast-with-outside-3 : tie.Need-cast-with-outside-3
 cast-with-outside-3 c = search needs
 
--- src/lib.rt:139:34
 with-outside-requires : tie.Need-with-outside-requires
 with-outside-requires c κs = search needs
 
--- src/lib.rt:139:9
 step-requires : tie.Need-step-requires
 step-requires c κs = search needs
 
--- src/lib.rt:140:5
 accepted-requires : tie.Need-accepted-requires
 accepted-requires c κs = search needs
 
--- src/lib.rt:123:1
 returns-4 : tie.Need-returns-4
 unfolding pinsDone
 returns-4 c = c .accepted .ensures ∙ accepts _ _ (code-pins _ _ (c .before .before .before .before .before .before .pre .0) (c .before .before .before .before .before .before .pre .1) ∙ (simp (le-ltb _ _ (c .before .before .before .before .before .if1 .left), le-ltb _ _ (c .before .before .before .before .if2 .left), le-ltb _ _ (c .before .before .before .if3 .left)))) (sym (pins-done _ _ (c .before .before .before .before .before .before .pre .1) ∙ (simp (c .before .step .ensures, c .before .before .with-outside .ensures))))

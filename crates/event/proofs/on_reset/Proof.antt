@@ -1,22 +1,15 @@
-use mathlib.Core.Path.{_≡_, refl, sym, ap, _∙_}
+use mathlib.Core.Path.{sym, _∙_}
 use Rattle.event.proofs.Ways.{accepts, code-reset, reset-done}
 use borrow.Author.Needs.{needs}
 use Rattle.event.proofs.on_reset.Statement.{statement}
 use Rattle.event.proofs.on_reset.Tie as tie
-use Rattle.event.proofs.on_reset.Reads as reads
-use Rattle.event.proofs.on_reset.Lts as lts
-use Rattle.event.proofs.accepted.Reads as accepted-reads
-use Rattle.record.proofs.reset.Reads as reset-reads
 
--- src/lib.rt:66:14
 reset-requires : tie.Need-reset-requires
 reset-requires c κs = search needs
 
--- src/lib.rt:66:5
 accepted-requires : tie.Need-accepted-requires
 accepted-requires c κs = search needs
 
--- src/lib.rt:62:1
 returns : tie.Need-returns
 returns c = c .accepted .ensures ∙ accepts _ _ (code-reset _ _ (c .before .before .pre .0) (c .before .before .pre .1)) (simp (c .before .reset .ensures) (sym (reset-done _ _ (c .before .before .pre .1))))
 

@@ -1,87 +1,61 @@
 use Prim.Native.Nat.{ℕ, suc, _≤_, zero-le}
 use native.Mathlib.Omega.{arith}
-use borrow.Author.Tests.{eq-eqb, ne-eqb, lt-ltb, le-ltb}
-use mathlib.Core.Path.{_≡_, refl, sym, ap, _∙_}
+use borrow.Author.Tests.{lt-ltb}
+use mathlib.Core.Path.{_≡_, refl, _∙_}
 use Rattle.event.proofs.Ways.{refuses, code-unknown}
 use borrow.Author.Needs.{needs}
 use Rattle.event.proofs.sound_event.Statement.{statement}
 use Rattle.event.proofs.sound_event.Tie as tie
-use Rattle.event.proofs.sound_event.Reads as reads
-use Rattle.event.proofs.sound_event.Lts as lts
-use Rattle.event.proofs.on_acknowledge.Reads as on-acknowledge-reads
-use Rattle.event.proofs.on_clocks.Reads as on-clocks-reads
-use Rattle.event.proofs.on_iei.Reads as on-iei-reads
-use Rattle.event.proofs.on_pins.Reads as on-pins-reads
-use Rattle.event.proofs.on_read.Reads as on-read-reads
-use Rattle.event.proofs.on_reset.Reads as on-reset-reads
-use Rattle.event.proofs.on_write.Reads as on-write-reads
-use Rattle.event.proofs.refused.Reads as refused-reads
 
 -- what is at least n and not n is more than n
 next : {n a : ℕ} → n ≤ a → (a ≡ n → ⊥) → suc n ≤ a
 next h g = omega arith
 
--- src/lib.rt:195:14
 on-reset-requires : tie.Need-on-reset-requires
 on-reset-requires c κs = search needs
 
--- src/lib.rt:196:14
 on-write-requires : tie.Need-on-write-requires
 on-write-requires c κs = search needs
 
--- src/lib.rt:197:14
 on-read-requires : tie.Need-on-read-requires
 on-read-requires c κs = search needs
 
--- src/lib.rt:198:14
 on-pins-requires : tie.Need-on-pins-requires
 on-pins-requires c κs = search needs
 
--- src/lib.rt:199:14
 on-clocks-requires : tie.Need-on-clocks-requires
 on-clocks-requires c κs = search needs
 
--- src/lib.rt:200:14
 on-acknowledge-requires : tie.Need-on-acknowledge-requires
 on-acknowledge-requires c κs = search needs
 
--- src/lib.rt:201:14
 on-iei-requires : tie.Need-on-iei-requires
 on-iei-requires c κs = search needs
 
--- src/lib.rt:202:14
 refused-requires : tie.Need-refused-requires
 refused-requires c κs = search needs
 
--- src/lib.rt:189:1
 returns : tie.Need-returns
 returns c = search needs
 
--- src/lib.rt:189:1
 returns-2 : tie.Need-returns-2
 returns-2 c = search needs
 
--- src/lib.rt:189:1
 returns-3 : tie.Need-returns-3
 returns-3 c = search needs
 
--- src/lib.rt:189:1
 returns-4 : tie.Need-returns-4
 returns-4 c = search needs
 
--- src/lib.rt:189:1
 returns-5 : tie.Need-returns-5
 returns-5 c = search needs
 
--- src/lib.rt:189:1
 returns-6 : tie.Need-returns-6
 returns-6 c = search needs
 
--- src/lib.rt:189:1
 returns-7 : tie.Need-returns-7
 returns-7 c = search needs
 
--- src/lib.rt:189:1
 returns-8 : tie.Need-returns-8
 returns-8 c = let r = c .before .match .rest in c .refused .ensures ∙ refuses _ _ 1 (code-unknown _ _ (c .before .before .pre) (lt-ltb _ _ (next (next (next (next (next (next (next zero-le (r .0 .0 .0 .0 .0 .0 .1)) (r .0 .0 .0 .0 .0 .1)) (r .0 .0 .0 .0 .1)) (r .0 .0 .0 .1)) (r .0 .0 .1)) (r .0 .1)) (r .1)))) refl refl
 

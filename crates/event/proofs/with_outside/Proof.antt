@@ -1,24 +1,18 @@
-use mathlib.Core.Path.{_≡_, refl, sym, ap, _∙_}
+use mathlib.Core.Path.{refl}
 use Rattle.rules.specs.Events.{outsideSet}
 use borrow.Author.Needs.{needs}
 use Rattle.event.proofs.with_outside.Statement.{statement}
 use Rattle.event.proofs.with_outside.Tie as tie
-use Rattle.event.proofs.with_outside.Reads as reads
-use Rattle.event.proofs.with_outside.Lts as lts
 
--- src/lib.rt:112:14
 element-copy-out-qa : tie.Need-element-copy-out-qa
 element-copy-out-qa c = search needs
 
--- src/lib.rt:113:14
 element-copy-out-qb : tie.Need-element-copy-out-qb
 element-copy-out-qb c = search needs
 
--- src/lib.rt:114:14
 element-copy-out-qc : tie.Need-element-copy-out-qc
 element-copy-out-qc c = search needs
 
--- src/lib.rt:109:1
 returns : tie.Need-returns
 unfolding outsideSet
 returns c = refl

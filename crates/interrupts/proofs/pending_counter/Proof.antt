@@ -2,28 +2,19 @@ use Rattle.rules.specs.Interrupts.{pendingCounter}
 use borrow.Author.Needs.{needs}
 use Rattle.interrupts.proofs.pending_counter.Statement.{statement}
 use Rattle.interrupts.proofs.pending_counter.Tie as tie
-use Rattle.interrupts.proofs.pending_counter.Reads as reads
-use Rattle.interrupts.proofs.pending_counter.Lts as lts
-use Rattle.interrupts.proofs.pending_at.Reads as pending-at-reads
-use Rattle.sources.proofs.first.Reads as first-reads
 
--- src/lib.rt:117:20
 pending-at-requires : tie.Need-pending-at-requires
 pending-at-requires c κs = search needs
 
--- src/lib.rt:117:45
 pending-at-requires-2 : tie.Need-pending-at-requires-2
 pending-at-requires-2 c κs = search needs
 
--- src/lib.rt:117:70
 pending-at-requires-3 : tie.Need-pending-at-requires-3
 pending-at-requires-3 c κs = search needs
 
--- src/lib.rt:117:5
 first-requires : tie.Need-first-requires
 first-requires c κs = search needs
 
--- src/lib.rt:114:1
 returns : tie.Need-returns
 unfolding pendingCounter
 returns c = (simp (c .first .ensures .0, c .before .before .before .pending-at .ensures, c .before .before .pending-at2 .ensures, c .before .pending-at3 .ensures), c .first .ensures .1)

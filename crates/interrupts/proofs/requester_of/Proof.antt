@@ -2,36 +2,25 @@ use Rattle.rules.specs.Interrupts.{requester, first}
 use borrow.Author.Needs.{needs}
 use Rattle.interrupts.proofs.requester_of.Statement.{statement}
 use Rattle.interrupts.proofs.requester_of.Tie as tie
-use Rattle.interrupts.proofs.requester_of.Reads as reads
-use Rattle.interrupts.proofs.requester_of.Lts as lts
-use Rattle.interrupts.proofs.requests_at.Reads as requests-at-reads
-use Rattle.sources.proofs.first.Reads as first-reads
 
--- src/lib.rt:48:20
 requests-at-requires : tie.Need-requests-at-requires
 requests-at-requires c κs = search needs
 
--- src/lib.rt:48:39
 requests-at-requires-2 : tie.Need-requests-at-requires-2
 requests-at-requires-2 c κs = search needs
 
--- src/lib.rt:48:58
 requests-at-requires-3 : tie.Need-requests-at-requires-3
 requests-at-requires-3 c κs = search needs
 
--- src/lib.rt:48:77
 requests-at-requires-4 : tie.Need-requests-at-requires-4
 requests-at-requires-4 c κs = search needs
 
--- src/lib.rt:48:96
 requests-at-requires-5 : tie.Need-requests-at-requires-5
 requests-at-requires-5 c κs = search needs
 
--- src/lib.rt:48:5
 first-requires : tie.Need-first-requires
 first-requires c κs = search needs
 
--- src/lib.rt:45:1
 returns : tie.Need-returns
 unfolding requester first
 returns c = (simp (c .first .ensures .0, c .before .before .before .before .before .requests-at .ensures, c .before .before .before .before .requests-at2 .ensures, c .before .before .before .requests-at3 .ensures, c .before .before .requests-at4 .ensures, c .before .requests-at5 .ensures), c .first .ensures .1)

@@ -1,63 +1,48 @@
-use borrow.Author.Tests.{eq-eqb, ne-eqb, lt-ltb, le-ltb}
+use borrow.Author.Tests.{eq-eqb, ne-eqb}
 use Rattle.rules.specs.Registers.{vis}
 use Rattle.rules.specs.Interrupts.{vectorFor, vectorOf}
 use borrow.Author.Needs.{needs}
 use Rattle.interrupts.proofs.vector_for.Statement.{statement}
 use Rattle.interrupts.proofs.vector_for.Tie as tie
-use Rattle.interrupts.proofs.vector_for.Reads as reads
-use Rattle.interrupts.proofs.vector_for.Lts as lts
-use Rattle.interrupts.proofs.with_status.Reads as with-status-reads
 
--- src/lib.rt:87:13
 with-status-requires : tie.Need-with-status-requires
 with-status-requires c κs = search needs
 
--- src/lib.rt:87:13
 returns : tie.Need-returns
 unfolding vectorFor vectorOf vis
 returns c = simp (c .with-status .ensures, c .before .before .if1 .taken, eq-eqb _ _ (c .before .if2 .taken))
 
--- src/lib.rt:89:16
 element-copy-out-result : tie.Need-element-copy-out-result
 element-copy-out-result c = search needs
 
--- src/lib.rt:89:9
 returns-2 : tie.Need-returns-2
 unfolding vectorFor vectorOf vis
 returns-2 c = simp (c .before .before .if1 .taken, ne-eqb _ _ (c .before .if2 .left))
 
--- src/lib.rt:93:13
 with-status-requires-2 : tie.Need-with-status-requires-2
 with-status-requires-2 c κs = search needs
 
--- src/lib.rt:93:13
 returns-3 : tie.Need-returns-3
 unfolding vectorFor vectorOf vis
 returns-3 c = simp (c .with-status2 .ensures, c .before .before .if3 .taken, eq-eqb _ _ (c .before .if4 .taken))
 
--- src/lib.rt:95:16
 element-copy-out-result-2 : tie.Need-element-copy-out-result-2
 element-copy-out-result-2 c = search needs
 
--- src/lib.rt:95:9
 returns-4 : tie.Need-returns-4
 unfolding vectorFor vectorOf vis
 returns-4 c = simp (c .before .before .if3 .taken, ne-eqb _ _ (c .before .if4 .left))
 
--- src/lib.rt:98:9
 with-status-requires-3 : tie.Need-with-status-requires-3
 with-status-requires-3 c κs = search needs
 
--- src/lib.rt:98:9
 returns-5 : tie.Need-returns-5
 unfolding vectorFor vectorOf vis
 returns-5 c = simp (c .with-status3 .ensures, ne-eqb _ _ (c .before .before .before .if1 .left), ne-eqb _ _ (c .before .before .if3 .left), eq-eqb _ _ (c .before .if5 .taken))
 
--- src/lib.rt:100:5
 element-copy-out-result-3 : tie.Need-element-copy-out-result-3
 element-copy-out-result-3 c = search needs
 
--- src/lib.rt:81:1
 returns-6 : tie.Need-returns-6
 unfolding vectorFor vectorOf vis
 returns-6 c = simp (ne-eqb _ _ (c .before .before .before .if1 .left), ne-eqb _ _ (c .before .before .if3 .left), ne-eqb _ _ (c .before .if5 .left))

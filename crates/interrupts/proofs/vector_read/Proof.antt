@@ -1,56 +1,42 @@
 use native.Mathlib.Omega.{arith}
-use mathlib.Core.Path.{_≡_, refl, sym, ap, _∙_}
-use borrow.Author.Tests.{eq-eqb, ne-eqb, lt-ltb, le-ltb}
+use mathlib.Core.Path.{_≡_}
+use borrow.Author.Tests.{ne-eqb}
 use Rattle.rules.specs.Interrupts.{vectorRead}
 use borrow.Author.Needs.{needs}
 use Rattle.interrupts.proofs.vector_read.Statement.{statement}
 use Rattle.interrupts.proofs.vector_read.Tie as tie
-use Rattle.interrupts.proofs.vector_read.Reads as reads
-use Rattle.interrupts.proofs.vector_read.Lts as lts
-use Rattle.interrupts.proofs.pending_counter.Reads as pending-counter-reads
-use Rattle.interrupts.proofs.with_status.Reads as with-status-reads
 
--- src/lib.rt:125:16
 element-copy-out-base : tie.Need-element-copy-out-base
 element-copy-out-base c = search needs
 
--- src/lib.rt:127:9
 returns : tie.Need-returns
 unfolding vectorRead
 returns c = simp (c .if1 .taken)
 
--- src/lib.rt:130:9
 with-status-requires : tie.Need-with-status-requires
 with-status-requires c κs = search needs
 
--- src/lib.rt:130:9
 returns-2 : tie.Need-returns-2
 unfolding vectorRead
 returns-2 c = simp (c .with-status .ensures, c .before .before .if1 .left, c .before .if2 .taken)
 
--- src/lib.rt:133:9
 with-status-requires-2 : tie.Need-with-status-requires-2
 with-status-requires-2 c κs = search needs
 
--- src/lib.rt:133:9
 returns-3 : tie.Need-returns-3
 unfolding vectorRead
 returns-3 c = simp (c .with-status2 .ensures, c .before .before .before .if1 .left, c .before .if3 .taken)
 
--- src/lib.rt:135:9
 pending-counter-requires : tie.Need-pending-counter-requires
 pending-counter-requires c κs = search needs
 
--- src/lib.rt:137:9
 with-status-requires-3 : tie.Need-with-status-requires-3
 with-status-requires-3 c κs = search needs
 
--- src/lib.rt:137:9
 returns-4 : tie.Need-returns-4
 unfolding vectorRead
 returns-4 c = simp (c .with-status3 .ensures, c .before .before .before .before .before .if1 .left, ne-eqb _ _ (c .before .before .before .before .if2 .left), ne-eqb _ _ (c .before .before .before .if3 .left), ← c .before .before .pending-counter .ensures .0, ne-eqb (c .before .before .pending-counter .result) 5 (λ z. omega arith))
 
--- src/lib.rt:121:1
 returns-5 : tie.Need-returns-5
 unfolding vectorRead
 returns-5 c = let z : c .before .pending-counter .result ≡ 5 = omega (arith, c .before .pending-counter .ensures .1) in simp (c .before .before .before .before .if1 .left, ne-eqb _ _ (c .before .before .before .if2 .left), ne-eqb _ _ (c .before .before .if3 .left), ← c .before .pending-counter .ensures .0, z)

@@ -2,39 +2,28 @@ use Rattle.rules.specs.Record.{resetOf}
 use borrow.Author.Needs.{needs}
 use Rattle.record.proofs.reset.Statement.{statement}
 use Rattle.record.proofs.reset.Tie as tie
-use Rattle.record.proofs.reset.Reads as reads
-use Rattle.record.proofs.reset.Lts as lts
-use Rattle.rules.proofs.Device.fresh.Reads as fresh-reads
 
--- src/lib.rt:16:17
 fresh-requires : tie.Need-fresh-requires
 fresh-requires c κs = search needs
 
--- src/lib.rt:17:26
 element-copy-out-e : tie.Need-element-copy-out-e
 element-copy-out-e c = search needs
 
--- src/lib.rt:17:5
 way-write-given-e : tie.Need-way-write-given-e
 way-write-given-e c = search needs
 
--- src/lib.rt:18:26
 element-copy-out-e-2 : tie.Need-element-copy-out-e-2
 element-copy-out-e-2 c = search needs
 
--- src/lib.rt:18:5
 way-write-given-e-2 : tie.Need-way-write-given-e-2
 way-write-given-e-2 c = search needs
 
--- src/lib.rt:19:26
 element-copy-out-e-3 : tie.Need-element-copy-out-e-3
 element-copy-out-e-3 c = search needs
 
--- src/lib.rt:19:5
 way-write-given-e-3 : tie.Need-way-write-given-e-3
 way-write-given-e-3 c = search needs
 
--- src/lib.rt:13:1
 returns : tie.Need-returns
 unfolding resetOf
 returns c = simp (c .before .before .before .fresh .ensures)

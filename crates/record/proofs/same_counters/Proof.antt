@@ -2,23 +2,16 @@ use Rattle.rules.specs.Sound.{sameCounters}
 use borrow.Author.Needs.{needs}
 use Rattle.record.proofs.same_counters.Statement.{statement}
 use Rattle.record.proofs.same_counters.Tie as tie
-use Rattle.record.proofs.same_counters.Reads as reads
-use Rattle.record.proofs.same_counters.Lts as lts
-use Rattle.record.proofs.same_counter_at.Reads as same-counter-at-reads
 
--- src/lib.rt:97:5
 same-counter-at-requires : tie.Need-same-counter-at-requires
 same-counter-at-requires c κs = search needs
 
--- src/lib.rt:97:32
 same-counter-at-requires-2 : tie.Need-same-counter-at-requires-2
 same-counter-at-requires-2 c κs = search needs
 
--- src/lib.rt:97:59
 same-counter-at-requires-3 : tie.Need-same-counter-at-requires-3
 same-counter-at-requires-3 c κs = search needs
 
--- src/lib.rt:94:1
 returns : tie.Need-returns
 unfolding sameCounters
 returns c = simp (c .before .before .same-counter-at .ensures, c .before .same-counter-at2 .ensures, c .same-counter-at3 .ensures)

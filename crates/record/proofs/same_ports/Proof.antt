@@ -2,23 +2,16 @@ use Rattle.rules.specs.Sound.{samePorts}
 use borrow.Author.Needs.{needs}
 use Rattle.record.proofs.same_ports.Statement.{statement}
 use Rattle.record.proofs.same_ports.Tie as tie
-use Rattle.record.proofs.same_ports.Reads as reads
-use Rattle.record.proofs.same_ports.Lts as lts
-use Rattle.record.proofs.same_port_at.Reads as same-port-at-reads
 
--- src/lib.rt:112:5
 same-port-at-requires : tie.Need-same-port-at-requires
 same-port-at-requires c κs = search needs
 
--- src/lib.rt:112:29
 same-port-at-requires-2 : tie.Need-same-port-at-requires-2
 same-port-at-requires-2 c κs = search needs
 
--- src/lib.rt:112:53
 same-port-at-requires-3 : tie.Need-same-port-at-requires-3
 same-port-at-requires-3 c κs = search needs
 
--- src/lib.rt:109:1
 returns : tie.Need-returns
 unfolding samePorts
 returns c = simp (c .before .before .same-port-at .ensures, c .before .same-port-at2 .ensures, c .same-port-at3 .ensures)

@@ -2,31 +2,22 @@ use Rattle.rules.specs.Sound.{sameSources}
 use borrow.Author.Needs.{needs}
 use Rattle.record.proofs.same_sources.Statement.{statement}
 use Rattle.record.proofs.same_sources.Tie as tie
-use Rattle.record.proofs.same_sources.Reads as reads
-use Rattle.record.proofs.same_sources.Lts as lts
-use Rattle.record.proofs.same_source_at.Reads as same-source-at-reads
 
--- src/lib.rt:78:5
 same-source-at-requires : tie.Need-same-source-at-requires
 same-source-at-requires c κs = search needs
 
--- src/lib.rt:79:11
 same-source-at-requires-2 : tie.Need-same-source-at-requires-2
 same-source-at-requires-2 c κs = search needs
 
--- src/lib.rt:80:11
 same-source-at-requires-3 : tie.Need-same-source-at-requires-3
 same-source-at-requires-3 c κs = search needs
 
--- src/lib.rt:81:11
 same-source-at-requires-4 : tie.Need-same-source-at-requires-4
 same-source-at-requires-4 c κs = search needs
 
--- src/lib.rt:82:11
 same-source-at-requires-5 : tie.Need-same-source-at-requires-5
 same-source-at-requires-5 c κs = search needs
 
--- src/lib.rt:75:1
 returns : tie.Need-returns
 unfolding sameSources
 returns c = simp (c .before .before .before .before .same-source-at .ensures, c .before .before .before .same-source-at2 .ensures, c .before .before .same-source-at3 .ensures, c .before .same-source-at4 .ensures, c .same-source-at5 .ensures)

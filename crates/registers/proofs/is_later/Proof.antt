@@ -6,16 +6,11 @@ use mathlib.Core.List.{List, [], _∷_}
 use types.Run.{OneOf, miss}
 use denote.Enum.Declared.{tagOf}
 use Rattle.rules.proofs.Kind.{the-type}
-use mathlib.Core.Path.{_≡_, refl, sym, ap, _∙_}
+use mathlib.Core.Path.{_≡_, refl}
 use Rattle.rules.specs.Registers.{later}
 use borrow.Author.Needs.{needs}
 use Rattle.registers.proofs.is_later.Statement.{statement}
 use Rattle.registers.proofs.is_later.Tie as tie
-use Rattle.registers.proofs.is_later.Reads as reads
-use Rattle.registers.proofs.is_later.Lts as lts
-use Rattle.registers.proofs.later_config.Reads as later-config-reads
-use Rattle.registers.proofs.later_counter_mode.Reads as later-counter-mode-reads
-use Rattle.registers.proofs.later_port_mode.Reads as later-port-mode-reads
 
 -- the arm `_`: by the kinds, of which some are not among its keys
 abbrev keys : List ℕ
@@ -43,46 +38,36 @@ rest (Transition p) b o = refl
 rest (Mask p) b o = refl
 rest Absent b o = refl
 
--- src/lib.rt:103:25
 enum-told : tie.Need-enum-told
 enum-told c = search needs
 
--- src/lib.rt:103:25
 later-config-requires : tie.Need-later-config-requires
 later-config-requires c κs = search needs
 
--- src/lib.rt:104:33
 enum-told-2 : tie.Need-enum-told-2
 enum-told-2 c = search needs
 
--- src/lib.rt:104:33
 later-counter-mode-requires : tie.Need-later-counter-mode-requires
 later-counter-mode-requires c κs = search needs
 
--- src/lib.rt:105:30
 enum-told-3 : tie.Need-enum-told-3
 enum-told-3 c = search needs
 
--- src/lib.rt:105:30
 later-port-mode-requires : tie.Need-later-port-mode-requires
 later-port-mode-requires c κs = search needs
 
--- src/lib.rt:99:1
 returns : tie.Need-returns
 unfolding later
 returns c = simp (c .before .enum-told .given .1, c .later-config .ensures)
 
--- src/lib.rt:99:1
 returns-2 : tie.Need-returns-2
 unfolding later
 returns-2 c = simp (c .before .enum-told2 .given .1, c .later-counter-mode .ensures)
 
--- src/lib.rt:99:1
 returns-3 : tie.Need-returns-3
 unfolding later
 returns-3 c = simp (c .before .enum-told3 .given .1, c .later-port-mode .ensures)
 
--- src/lib.rt:99:1
 returns-4 : tie.Need-returns-4
 returns-4 c = rest (c .before .args .k) (c .before .args .b) (c .match .keys4)
 

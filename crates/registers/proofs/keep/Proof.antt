@@ -1,16 +1,12 @@
-use borrow.Author.Tests.{eq-eqb, ne-eqb, lt-ltb, le-ltb}
+use borrow.Author.Tests.{eq-eqb, ne-eqb}
 use Rattle.rules.specs.Registers.{kept}
 use Rattle.registers.proofs.keep.Statement.{statement}
 use Rattle.registers.proofs.keep.Tie as tie
-use Rattle.registers.proofs.keep.Reads as reads
-use Rattle.registers.proofs.keep.Lts as lts
 
--- src/lib.rt:115:9
 returns : tie.Need-returns
 unfolding kept
 returns c = simp (eq-eqb _ _ (c .if1 .taken))
 
--- src/lib.rt:111:1
 returns-2 : tie.Need-returns-2
 unfolding kept
 returns-2 c = simp (ne-eqb _ _ (c .if1 .left))

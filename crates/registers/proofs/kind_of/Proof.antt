@@ -1,27 +1,21 @@
 use Rattle.bits.proofs.Tabled.{at}
-use borrow.Author.Tests.{eq-eqb, ne-eqb, lt-ltb, le-ltb}
-use mathlib.Core.Path.{_≡_, refl, sym, ap, _∙_}
+use borrow.Author.Tests.{lt-ltb, le-ltb}
+use mathlib.Core.Path.{_∙_}
 use Rattle.rules.specs.Registers.{kindIn, kindOf, portKind}
 use borrow.Author.Needs.{needs}
 use Rattle.registers.proofs.kind_of.Statement.{statement}
 use Rattle.registers.proofs.kind_of.Tie as tie
-use Rattle.registers.proofs.kind_of.Reads as reads
-use Rattle.registers.proofs.kind_of.Lts as lts
 
--- src/lib.rt:64:16
 mul-result : tie.Need-mul-result
 mul-result c = search needs
 
--- src/lib.rt:64:16
 array-copy-out-result : tie.Need-array-copy-out-result
 array-copy-out-result c = search needs
 
--- src/lib.rt:64:9
 returns : tie.Need-returns
 unfolding kindIn kindOf portKind
 returns c = at kindIn 48 (c .before .before .args .address) _ (c .before .if1 .taken) ∙ simp (lt-ltb _ _ (c .before .if1 .taken))
 
--- src/lib.rt:59:1
 returns-2 : tie.Need-returns-2
 unfolding kindIn kindOf portKind
 returns-2 c = simp (le-ltb _ _ (c .if1 .left))

@@ -1,11 +1,8 @@
-use mathlib.Core.Path.{_≡_, refl, sym, ap, _∙_}
+use mathlib.Core.Path.{refl}
 use Rattle.rules.specs.Registers.{laterConfig}
 use Rattle.registers.proofs.later_config.Statement.{statement}
 use Rattle.registers.proofs.later_config.Tie as tie
-use Rattle.registers.proofs.later_config.Reads as reads
-use Rattle.registers.proofs.later_config.Lts as lts
 
--- src/lib.rt:75:1
 returns : tie.Need-returns
 unfolding laterConfig
 returns c = refl

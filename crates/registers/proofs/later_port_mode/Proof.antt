@@ -1,12 +1,8 @@
 use native.Mathlib.Nat.{div-one}
-use mathlib.Core.Path.{_≡_, refl, sym, ap, _∙_}
 use Rattle.rules.specs.Registers.{laterPortMode}
 use Rattle.registers.proofs.later_port_mode.Statement.{statement}
 use Rattle.registers.proofs.later_port_mode.Tie as tie
-use Rattle.registers.proofs.later_port_mode.Reads as reads
-use Rattle.registers.proofs.later_port_mode.Lts as lts
 
--- src/lib.rt:69:1
 returns : tie.Need-returns
 unfolding laterPortMode
 returns c = simp div-one

@@ -6,13 +6,11 @@ use mathlib.Core.List.{List, [], _∷_}
 use types.Run.{OneOf, miss}
 use denote.Enum.Declared.{tagOf}
 use Rattle.rules.proofs.Kind.{the-type}
-use mathlib.Core.Path.{_≡_, refl, sym, ap, _∙_}
+use mathlib.Core.Path.{_≡_, refl}
 use Rattle.rules.specs.Registers.{readOnly}
 use borrow.Author.Needs.{needs}
 use Rattle.registers.proofs.read_only.Statement.{statement}
 use Rattle.registers.proofs.read_only.Tie as tie
-use Rattle.registers.proofs.read_only.Reads as reads
-use Rattle.registers.proofs.read_only.Lts as lts
 
 -- the arm `_`: by the kinds, of which some are not among its keys
 abbrev keys : List ℕ
@@ -40,25 +38,20 @@ rest (Transition p) o = refl
 rest (Mask p) o = refl
 rest Absent o = refl
 
--- src/lib.rt:92:32
 enum-told : tie.Need-enum-told
 enum-told c = search needs
 
--- src/lib.rt:93:32
 enum-told-2 : tie.Need-enum-told-2
 enum-told-2 c = search needs
 
--- src/lib.rt:88:1
 returns : tie.Need-returns
 unfolding readOnly
 returns c = simp (c .enum-told .given .1)
 
--- src/lib.rt:88:1
 returns-2 : tie.Need-returns-2
 unfolding readOnly
 returns-2 c = simp (c .enum-told2 .given .1)
 
--- src/lib.rt:88:1
 returns-3 : tie.Need-returns-3
 returns-3 c = rest (c .before .args .k) (c .match .keys3)
 

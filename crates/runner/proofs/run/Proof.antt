@@ -1,10 +1,9 @@
 -- `runner::run` meets its contract: after i clocks the run is the definition's after i clocks.
 -- Assumes nothing.
-use Prim.Native.Nat.{ℕ, suc, _+_, _-_, _≤_, _<_}
+use Prim.Native.Nat.{ℕ, _-_, _≤_, _<_}
 use mathlib.Core.Path.{_≡_, refl, sym, ap, subst, _∙_}
 use mathlib.Core.List.{[], _∷_}
 use native.Mathlib.Numerals.{add-one}
-use native.Mathlib.Nat.{le-antisymm}
 use native.Mathlib.Omega.{arith}
 use lib.ListN.{getD}
 use Rattle.rules.specs.declared.Ran.{Ran}
@@ -23,7 +22,7 @@ abbrev μ-loop : tie.MeasureT-loop
 room : (i : ℕ) (s₀ s : Ran) → s ≡ iterate i clockOf s₀ → s₀ .terminals ≡ 0 ∷ 0 ∷ 0 ∷ [] → i < 4294967295 → Room (s .terminals)
 room i s₀ s e z h =
     let none : (j : ℕ) → getD (s₀ .terminals) j 0 ≤ 0 → getD (s .terminals) j 0 < 4294967295
-        = λ j g. subst (λ (r : Ran). getD (r .terminals) j 0 < 4294967295) (sym e) (omega (arith, at-most j i s₀)) in
+    = λ j g. subst (λ (r : Ran). getD (r .terminals) j 0 < 4294967295) (sym e) (omega (arith, at-most j i s₀)) in
     record { one = none 0 (rw z (omega arith)); two = none 1 (rw z (omega arith)); three = none 2 (rw z (omega arith)) }
 
 loop-holds : tie.Need-loop-holds Inv-loop μ-loop
@@ -42,10 +41,11 @@ loop-less c = omega arith
 
 loop-again : tie.Need-loop-again Inv-loop μ-loop
 unfolding iterate
-loop-again c =
-    (omega arith,
-    c .clock .ensures ∙ (rw add-one (ap clockOf (c .before .before .loop .inv .1))),
-    c .before .before .loop .inv .2)
+loop-again c = (
+  omega arith,
+  c .clock .ensures ∙ (rw add-one (ap clockOf (c .before .before .loop .inv .1))),
+  c .before .before .loop .inv .2,
+)
 
 returns : tie.Need-returns Inv-loop μ-loop
 unfolding ranOf

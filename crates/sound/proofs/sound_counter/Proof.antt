@@ -1,11 +1,8 @@
-use mathlib.Core.Path.{_≡_, refl, sym, ap, _∙_}
+use mathlib.Core.Path.{refl}
 use Rattle.rules.specs.Sound.{soundCounter, cipOnly, halfOnly, frozenOnly}
 use Rattle.sound.proofs.sound_counter.Statement.{statement}
 use Rattle.sound.proofs.sound_counter.Tie as tie
-use Rattle.sound.proofs.sound_counter.Reads as reads
-use Rattle.sound.proofs.sound_counter.Lts as lts
 
--- src/lib.rt:36:1
 returns : tie.Need-returns
 unfolding soundCounter cipOnly halfOnly frozenOnly
 returns c = refl

@@ -2,23 +2,16 @@ use Rattle.rules.specs.Sound.{soundCounters}
 use borrow.Author.Needs.{needs}
 use Rattle.sound.proofs.sound_counters.Statement.{statement}
 use Rattle.sound.proofs.sound_counters.Tie as tie
-use Rattle.sound.proofs.sound_counters.Reads as reads
-use Rattle.sound.proofs.sound_counters.Lts as lts
-use Rattle.sound.proofs.sound_counter_at.Reads as sound-counter-at-reads
 
--- src/lib.rt:53:5
 sound-counter-at-requires : tie.Need-sound-counter-at-requires
 sound-counter-at-requires c κs = search needs
 
--- src/lib.rt:53:30
 sound-counter-at-requires-2 : tie.Need-sound-counter-at-requires-2
 sound-counter-at-requires-2 c κs = search needs
 
--- src/lib.rt:53:55
 sound-counter-at-requires-3 : tie.Need-sound-counter-at-requires-3
 sound-counter-at-requires-3 c κs = search needs
 
--- src/lib.rt:50:1
 returns : tie.Need-returns
 unfolding soundCounters
 returns c = simp (c .before .before .sound-counter-at .ensures, c .before .sound-counter-at2 .ensures, c .sound-counter-at3 .ensures)

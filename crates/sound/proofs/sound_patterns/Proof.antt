@@ -2,36 +2,25 @@ use Rattle.rules.specs.Sound.{soundPatterns}
 use borrow.Author.Needs.{needs}
 use Rattle.sound.proofs.sound_patterns.Statement.{statement}
 use Rattle.sound.proofs.sound_patterns.Tie as tie
-use Rattle.sound.proofs.sound_patterns.Reads as reads
-use Rattle.sound.proofs.sound_patterns.Lts as lts
-use Rattle.device.proofs.port_enabled.Reads as port-enabled-reads
-use Rattle.ports.proofs.pmf_only.Reads as pmf-only-reads
 
--- src/lib.rt:85:13
 element-copy-out-a : tie.Need-element-copy-out-a
 element-copy-out-a c = search needs
 
--- src/lib.rt:86:13
 element-copy-out-b : tie.Need-element-copy-out-b
 element-copy-out-b c = search needs
 
--- src/lib.rt:87:21
 port-enabled-requires : tie.Need-port-enabled-requires
 port-enabled-requires c κs = search needs
 
--- src/lib.rt:87:5
 pmf-only-requires : tie.Need-pmf-only-requires
 pmf-only-requires c κs = search needs
 
--- src/lib.rt:87:70
 port-enabled-requires-2 : tie.Need-port-enabled-requires-2
 port-enabled-requires-2 c κs = search needs
 
--- src/lib.rt:87:54
 pmf-only-requires-2 : tie.Need-pmf-only-requires-2
 pmf-only-requires-2 c κs = search needs
 
--- src/lib.rt:82:1
 returns : tie.Need-returns
 unfolding soundPatterns
 returns c = simp (c .before .before .pmf-only .ensures, c .pmf-only2 .ensures, c .before .before .before .port-enabled .ensures, c .before .port-enabled2 .ensures)

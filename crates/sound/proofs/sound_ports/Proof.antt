@@ -2,32 +2,22 @@ use Rattle.rules.specs.Sound.{soundPorts}
 use borrow.Author.Needs.{needs}
 use Rattle.sound.proofs.sound_ports.Statement.{statement}
 use Rattle.sound.proofs.sound_ports.Tie as tie
-use Rattle.sound.proofs.sound_ports.Reads as reads
-use Rattle.sound.proofs.sound_ports.Lts as lts
-use Rattle.sound.proofs.four_bits.Reads as four-bits-reads
-use Rattle.sound.proofs.sound_port_at.Reads as sound-port-at-reads
 
--- src/lib.rt:78:13
 element-copy-out-c : tie.Need-element-copy-out-c
 element-copy-out-c c = search needs
 
--- src/lib.rt:79:5
 four-bits-requires : tie.Need-four-bits-requires
 four-bits-requires c κs = search needs
 
--- src/lib.rt:79:20
 sound-port-at-requires : tie.Need-sound-port-at-requires
 sound-port-at-requires c κs = search needs
 
--- src/lib.rt:79:42
 sound-port-at-requires-2 : tie.Need-sound-port-at-requires-2
 sound-port-at-requires-2 c κs = search needs
 
--- src/lib.rt:79:64
 sound-port-at-requires-3 : tie.Need-sound-port-at-requires-3
 sound-port-at-requires-3 c κs = search needs
 
--- src/lib.rt:75:1
 returns : tie.Need-returns
 unfolding soundPorts
 returns c = simp (c .before .before .before .four-bits .ensures, c .before .before .sound-port-at .ensures, c .before .sound-port-at2 .ensures, c .sound-port-at3 .ensures)

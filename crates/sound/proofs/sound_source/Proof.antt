@@ -1,11 +1,8 @@
-use mathlib.Core.Path.{_≡_, refl, sym, ap, _∙_}
+use mathlib.Core.Path.{refl}
 use Rattle.rules.specs.Sound.{soundSource, errOnly, hiddenOnly}
 use Rattle.sound.proofs.sound_source.Statement.{statement}
 use Rattle.sound.proofs.sound_source.Tie as tie
-use Rattle.sound.proofs.sound_source.Reads as reads
-use Rattle.sound.proofs.sound_source.Lts as lts
 
--- src/lib.rt:12:1
 returns : tie.Need-returns
 unfolding soundSource errOnly hiddenOnly
 returns c = refl

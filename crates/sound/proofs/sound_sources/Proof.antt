@@ -2,31 +2,22 @@ use Rattle.rules.specs.Sound.{soundSources}
 use borrow.Author.Needs.{needs}
 use Rattle.sound.proofs.sound_sources.Statement.{statement}
 use Rattle.sound.proofs.sound_sources.Tie as tie
-use Rattle.sound.proofs.sound_sources.Reads as reads
-use Rattle.sound.proofs.sound_sources.Lts as lts
-use Rattle.sound.proofs.sound_source_at.Reads as sound-source-at-reads
 
--- src/lib.rt:29:5
 sound-source-at-requires : tie.Need-sound-source-at-requires
 sound-source-at-requires c κs = search needs
 
--- src/lib.rt:30:11
 sound-source-at-requires-2 : tie.Need-sound-source-at-requires-2
 sound-source-at-requires-2 c κs = search needs
 
--- src/lib.rt:31:11
 sound-source-at-requires-3 : tie.Need-sound-source-at-requires-3
 sound-source-at-requires-3 c κs = search needs
 
--- src/lib.rt:32:11
 sound-source-at-requires-4 : tie.Need-sound-source-at-requires-4
 sound-source-at-requires-4 c κs = search needs
 
--- src/lib.rt:33:11
 sound-source-at-requires-5 : tie.Need-sound-source-at-requires-5
 sound-source-at-requires-5 c κs = search needs
 
--- src/lib.rt:26:1
 returns : tie.Need-returns
 unfolding soundSources
 returns c = simp (c .before .before .before .before .sound-source-at .ensures, c .before .before .before .sound-source-at2 .ensures, c .before .before .sound-source-at3 .ensures, c .before .sound-source-at4 .ensures, c .sound-source-at5 .ensures)

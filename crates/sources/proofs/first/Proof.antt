@@ -1,37 +1,28 @@
 use lib.Dec.{lit≤}
-use mathlib.Core.Path.{_≡_, refl, sym, ap, _∙_}
 use Rattle.rules.specs.Interrupts.{firstOf}
 use Rattle.sources.proofs.first.Statement.{statement}
 use Rattle.sources.proofs.first.Tie as tie
-use Rattle.sources.proofs.first.Reads as reads
-use Rattle.sources.proofs.first.Lts as lts
 
--- src/lib.rt:94:9
 returns : tie.Need-returns
 unfolding firstOf
 returns c = (simp (c .if1 .taken), lit≤ tt)
 
--- src/lib.rt:97:9
 returns-2 : tie.Need-returns-2
 unfolding firstOf
 returns-2 c = (simp (c .before .if1 .left, c .if2 .taken), lit≤ tt)
 
--- src/lib.rt:100:9
 returns-3 : tie.Need-returns-3
 unfolding firstOf
 returns-3 c = (simp (c .before .before .if1 .left, c .before .if2 .left, c .if3 .taken), lit≤ tt)
 
--- src/lib.rt:103:9
 returns-4 : tie.Need-returns-4
 unfolding firstOf
 returns-4 c = (simp (c .before .before .before .if1 .left, c .before .before .if2 .left, c .before .if3 .left, c .if4 .taken), lit≤ tt)
 
--- src/lib.rt:106:9
 returns-5 : tie.Need-returns-5
 unfolding firstOf
 returns-5 c = (simp (c .before .before .before .before .if1 .left, c .before .before .before .if2 .left, c .before .before .if3 .left, c .before .if4 .left, c .if5 .taken), lit≤ tt)
 
--- src/lib.rt:90:1
 returns-6 : tie.Need-returns-6
 unfolding firstOf
 returns-6 c = (simp (c .before .before .before .before .if1 .left, c .before .before .before .if2 .left, c .before .before .if3 .left, c .before .if4 .left, c .if5 .left), lit≤ tt)

@@ -3,35 +3,26 @@ use Rattle.rules.specs.Interrupts.{portStatus}
 use borrow.Author.Needs.{needs}
 use Rattle.sources.proofs.port_vector.Statement.{statement}
 use Rattle.sources.proofs.port_vector.Tie as tie
-use Rattle.sources.proofs.port_vector.Reads as reads
-use Rattle.sources.proofs.port_vector.Lts as lts
 
--- src/lib.rt:127:16
 mul-result : tie.Need-mul-result
 mul-result c = search needs
 
--- src/lib.rt:127:16
 add-result : tie.Need-add-result
 add-result c = search needs
 
--- src/lib.rt:127:16
 add-result-2 : tie.Need-add-result-2
 add-result-2 c = search needs
 
--- src/lib.rt:127:9
 returns : tie.Need-returns
 unfolding portStatus
 returns c = simp (c .if1 .taken)
 
--- src/lib.rt:129:5
 mul-result-2 : tie.Need-mul-result-2
 mul-result-2 c = search needs
 
--- src/lib.rt:129:5
 add-result-3 : tie.Need-add-result-3
 add-result-3 c = search needs
 
--- src/lib.rt:123:1
 returns-2 : tie.Need-returns-2
 unfolding portStatus
 returns-2 c = simp (c .if1 .left, add-zero)

@@ -1,20 +1,15 @@
 use Rattle.rules.specs.Interrupts.{raisedOf}
 use Rattle.sources.proofs.raise.Statement.{statement}
 use Rattle.sources.proofs.raise.Tie as tie
-use Rattle.sources.proofs.raise.Reads as reads
-use Rattle.sources.proofs.raise.Lts as lts
 
--- src/lib.rt:81:13
 returns : tie.Need-returns
 unfolding raisedOf
 returns c = simp (c .before .before .if1 .taken, c .if2 .taken)
 
--- src/lib.rt:83:9
 returns-2 : tie.Need-returns-2
 unfolding raisedOf
 returns-2 c = simp (c .before .before .if1 .taken, c .if2 .left)
 
--- src/lib.rt:74:1
 returns-3 : tie.Need-returns-3
 unfolding raisedOf
 returns-3 c = simp (c .if1 .left)

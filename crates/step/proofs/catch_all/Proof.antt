@@ -2,23 +2,16 @@ use Rattle.rules.specs.Step.{catchers}
 use borrow.Author.Needs.{needs}
 use Rattle.step.proofs.catch_all.Statement.{statement}
 use Rattle.step.proofs.catch_all.Tie as tie
-use Rattle.step.proofs.catch_all.Reads as reads
-use Rattle.step.proofs.catch_all.Lts as lts
-use Rattle.step.proofs.caught_at.Reads as caught-at-reads
 
--- src/lib.rt:67:16
 caught-at-requires : tie.Need-caught-at-requires
 caught-at-requires c κs = search needs
 
--- src/lib.rt:67:33
 caught-at-requires-2 : tie.Need-caught-at-requires-2
 caught-at-requires-2 c κs = search needs
 
--- src/lib.rt:67:50
 caught-at-requires-3 : tie.Need-caught-at-requires-3
 caught-at-requires-3 c κs = search needs
 
--- src/lib.rt:63:1
 returns : tie.Need-returns
 unfolding catchers
 returns c = simp (c .before .before .before .caught-at .ensures, c .before .before .caught-at2 .ensures, c .before .caught-at3 .ensures)

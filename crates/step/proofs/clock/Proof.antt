@@ -1,33 +1,24 @@
 use native.Mathlib.Nat.{div-one}
-use borrow.Author.Tests.{eq-eqb, ne-eqb, lt-ltb, le-ltb}
+use borrow.Author.Tests.{eq-eqb, ne-eqb}
 use Rattle.rules.specs.Step.{clockOf}
 use borrow.Author.Needs.{needs}
 use Rattle.step.proofs.clock.Statement.{statement}
 use Rattle.step.proofs.clock.Tie as tie
-use Rattle.step.proofs.clock.Reads as reads
-use Rattle.step.proofs.clock.Lts as lts
-use Rattle.step.proofs.count.Reads as count-reads
-use Rattle.step.proofs.step.Reads as step-reads
 
--- src/lib.rt:150:9
 returns : tie.Need-returns
 unfolding clockOf
 returns c = simp (div-one, eq-eqb _ _ (c .if1 .taken))
 
--- src/lib.rt:155:26
 step-requires : tie.Need-step-requires
 step-requires c κs = search needs
 
--- src/lib.rt:155:9
 count-requires : tie.Need-count-requires
 count-requires c κs = search needs
 
--- src/lib.rt:155:9
 returns-2 : tie.Need-returns-2
 unfolding clockOf
 returns-2 c = simp (c .count .ensures, c .before .step .ensures, div-one, ne-eqb _ _ (c .before .before .before .if1 .left), c .before .before .if2 .taken)
 
--- src/lib.rt:143:1
 returns-3 : tie.Need-returns-3
 unfolding clockOf
 returns-3 c = simp (div-one, ne-eqb _ _ (c .before .if1 .left), c .if2 .left)

@@ -2,47 +2,34 @@ use Rattle.rules.specs.Step.{counted}
 use borrow.Author.Needs.{needs}
 use Rattle.step.proofs.count.Statement.{statement}
 use Rattle.step.proofs.count.Tie as tie
-use Rattle.step.proofs.count.Reads as reads
-use Rattle.step.proofs.count.Lts as lts
-use Rattle.step.proofs.add.Reads as add-reads
 
--- src/lib.rt:138:25
 array-read-add : tie.Need-array-read-add
 array-read-add c = search needs
 
--- src/lib.rt:138:32
 array-read-add-2 : tie.Need-array-read-add-2
 array-read-add-2 c = search needs
 
--- src/lib.rt:138:21
 add-requires : tie.Need-add-requires
 add-requires c κs = search needs
 
--- src/lib.rt:138:43
 array-read-add-3 : tie.Need-array-read-add-3
 array-read-add-3 c = search needs
 
--- src/lib.rt:138:50
 array-read-add-4 : tie.Need-array-read-add-4
 array-read-add-4 c = search needs
 
--- src/lib.rt:138:39
 add-requires-2 : tie.Need-add-requires-2
 add-requires-2 c κs = search needs
 
--- src/lib.rt:138:61
 array-read-add-5 : tie.Need-array-read-add-5
 array-read-add-5 c = search needs
 
--- src/lib.rt:138:68
 array-read-add-6 : tie.Need-array-read-add-6
 array-read-add-6 c = search needs
 
--- src/lib.rt:138:57
 add-requires-3 : tie.Need-add-requires-3
 add-requires-3 c κs = search needs
 
--- src/lib.rt:130:1
 returns : tie.Need-returns
 unfolding counted
 returns c = simp (c .before .before .add .ensures, c .before .add2 .ensures, c .add3 .ensures)

@@ -2,24 +2,16 @@ use Rattle.rules.specs.Step.{settled}
 use borrow.Author.Needs.{needs}
 use Rattle.step.proofs.settle.Statement.{statement}
 use Rattle.step.proofs.settle.Tie as tie
-use Rattle.step.proofs.settle.Reads as reads
-use Rattle.step.proofs.settle.Lts as lts
-use Rattle.step.proofs.catch_all.Reads as catch-all-reads
-use Rattle.step.proofs.pattern_turn.Reads as pattern-turn-reads
 
--- src/lib.rt:94:51
 catch-all-requires : tie.Need-catch-all-requires
 catch-all-requires c κs = search needs
 
--- src/lib.rt:94:28
 pattern-turn-requires : tie.Need-pattern-turn-requires
 pattern-turn-requires c κs = search needs
 
--- src/lib.rt:94:5
 pattern-turn-requires-2 : tie.Need-pattern-turn-requires-2
 pattern-turn-requires-2 c κs = search needs
 
--- src/lib.rt:91:1
 returns : tie.Need-returns
 unfolding settled
 returns c = simp (c .pattern-turn2 .ensures, c .before .pattern-turn .ensures, c .before .before .catch-all .ensures)
