@@ -1,0 +1,79 @@
+-- What an example of paper 01 claims: events from the fresh device, each with its whole answer.
+-- Assumes nothing.
+use Prim.Native.Nat.{ℕ}
+use mathlib.Core.Path.{_≡_}
+use mathlib.Core.List.{List, [], _∷_}
+use lib.Dec.{eqb}
+use Rattle.rules.specs.declared.Event.{Event}
+use Rattle.rules.specs.declared.Answer.{Answer}
+use Rattle.rules.specs.declared.Outcome.{Outcome}
+use Rattle.rules.specs.Record.{freshOf}
+use Rattle.rules.specs.Events.{eventOf}
+
+-- ---- the events, as a line of a trace writes them
+-- "X: hardware reset. W address byte. R address. P a b c: outside pin levels. T n: n PCLK clocks. K: acknowledge."
+abbrev pub X : Event
+X = record { kind = 0; a = 0; b = 0; c = 0 }
+
+abbrev pub W : ℕ → ℕ → Event
+W address byte = record { kind = 1; a = address; b = byte; c = 0 }
+
+abbrev pub R : ℕ → Event
+R address = record { kind = 2; a = address; b = 0; c = 0 }
+
+abbrev pub P : ℕ → ℕ → ℕ → Event
+P a b c = record { kind = 3; a = a; b = b; c = c }
+
+abbrev pub T : ℕ → Event
+T n = record { kind = 4; a = n; b = 0; c = 0 }
+
+abbrev pub K : Event
+K = record { kind = 5; a = 0; b = 0; c = 0 }
+
+-- ---- the answers, as the trace program prints them: code, value, A, B, C, INT, IEO and three counts
+abbrev pub says : ℕ → ℕ → ℕ → ℕ → ℕ → ℕ → ℕ → ℕ → ℕ → ℕ → Answer
+says code value a b c int ieo t1 t2 t3 =
+    record {
+      code = code;
+      value = value;
+      a = a;
+      b = b;
+      c = c;
+      int = eqb int 1;
+      ieo = eqb ieo 1;
+      terminals = t1 ∷ t2 ∷ t3 ∷ [];
+    }
+
+-- ---- a claim
+-- an event, and the answer that it is to have
+pub record Line : Type 0 where
+  pub event : Event
+  pub answer : Answer
+
+abbrev pub line : Event → Answer → Line
+line e a = record { event = e; answer = a }
+
+-- accepted, with pins at 0, no interrupt and no terminal: `0 00 00 00 0 0 1 0 0 0`; and a read so answered, with its value
+abbrev pub plain : Event → Line
+plain e = line e (says 0 0x00 0x00 0x00 0x0 0 1 0 0 0)
+
+abbrev pub reads : ℕ → ℕ → Line
+reads address value = line (R address) (says 0 value 0x00 0x00 0x0 0 1 0 0 0)
+
+-- the answers to the events of a claim, each in the record that the one before it left
+unfoldable pub answersFrom : Outcome → List Line → List Answer
+answersFrom o [] = o .answer ∷ []
+answersFrom o (l ∷ ls) = o .answer ∷ answersFrom (eventOf (o .device) (l .event)) ls
+
+unfoldable pub answersTo : List Line → List Answer
+answersTo [] = []
+answersTo (l ∷ ls) = answersFrom (eventOf freshOf (l .event)) ls
+
+unfoldable pub expected : List Line → List Answer
+expected [] = []
+expected (l ∷ ls) = l .answer ∷ expected ls
+
+-- every claim of a list is right
+abbrev pub Right : List (List Line) → Type 0
+Right [] = Unit {0}
+Right (p ∷ ps) = (answersTo p ≡ expected p) × Right ps
