@@ -79,7 +79,7 @@ frame-step timer d0 d1 =
     frame-trans (frame-trans (frame-trans (frame-turn _ _ _ _ _ d1) (frame-turn _ _ _ _ _ _)) (frame-turn _ _ _ _ _ _)) (frame-settled _ _ _)
 
 -- ---- the counters go by their turns alone
-event-counters : (d : Device) (k : ℕ) (hides happens : Bool) → eventAt d k hides happens .counters ≡ d .counters
+pub event-counters : (d : Device) (k : ℕ) (hides happens : Bool) → eventAt d k hides happens .counters ≡ d .counters
 unfolding eventAt
 event-counters d k hides true = refl
 event-counters d k hides false = refl

@@ -1,4 +1,12 @@
 pub mod Iterate
 pub mod Frame
 pub mod Reports
+pub mod Demand3
+pub mod Countdown
+pub mod Lines
+pub mod Timer
+pub mod Division
+pub mod Same
 pub mod Rounds
+pub mod Alike
+pub mod Stretch

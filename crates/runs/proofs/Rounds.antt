@@ -14,6 +14,7 @@ use Rattle.rules.specs.Registers.{reset}
 use Rattle.rules.specs.Step.{counted, clockOf, iterate}
 use Rattle.runs.specs.Ticks.{sums, onTop}
 use Rattle.runs.proofs.Iterate.{iterate-add, iterate-commutes}
+use Rattle.runs.proofs.Same.{three}
 use Rattle.runs.proofs.Reports.{clock-held, clock-first, clock-timer, clock-on-top, clocks-add, no-less, one-more}
 
 -- ---- over any function f, and any g that does not matter to it: a round that does g
@@ -73,13 +74,6 @@ at-most i (suc n) s = omega (arith, at-most i n s, once i (iterate n clockOf s))
 abbrev pub afterRounds : ℕ → ℕ → ℕ → ℕ
 afterRounds q was is = is + q * (is - was)
 
-pub three : (l : List ℕ) → length l ≡ 3 → l ≡ getD l 0 0 ∷ getD l 1 0 ∷ getD l 2 0 ∷ []
-three [] h = absurd (omega arith)
-three (a ∷ []) h = absurd (omega arith)
-three (a ∷ b ∷ []) h = absurd (omega arith)
-three (a ∷ b ∷ c ∷ []) h = refl
-three (a ∷ b ∷ c ∷ x ∷ l) h = absurd (omega arith)
-
 -- the same counts on top, q times
 another : (a x q : ℕ) → a + (x + q * a) ≡ x + suc q * a
 another a x q = omega (arith, suc-mul q a)
@@ -112,8 +106,8 @@ module _ (was now : Ran) (p : ℕ) (few : length (was .terminals) ≡ 3) (as-few
   unfolding sums
   anchored =
       let counts : now .terminals ≡ sums gains (was .terminals) =
-      three (now .terminals) as-few
-      ∙ triple (omega (arith, gained 0 (lit< tt))) (omega (arith, gained 1 (lit< tt))) (omega (arith, gained 2 (lit< tt))) in
+        three 0 (now .terminals) as-few
+        ∙ triple (omega (arith, gained 0 (lit< tt))) (omega (arith, gained 1 (lit< tt))) (omega (arith, gained 2 (lit< tt))) in
       λ k. record { device = back k; terminals = counts k }
 
   a-round : iterate p clockOf now ≡ onTop gains now
@@ -126,13 +120,13 @@ module _ (was now : Ran) (p : ℕ) (few : length (was .terminals) ≡ 3) (as-few
       (record {
         device = now .device;
         terminals = afterRounds q (getD (was .terminals) 0 0) (getD (now .terminals) 0 0)
-            ∷ afterRounds q (getD (was .terminals) 1 0) (getD (now .terminals) 1 0)
-            ∷ afterRounds q (getD (was .terminals) 2 0) (getD (now .terminals) 2 0)
-            ∷ [];
+          ∷ afterRounds q (getD (was .terminals) 1 0) (getD (now .terminals) 1 0)
+          ∷ afterRounds q (getD (was .terminals) 2 0) (getD (now .terminals) 2 0)
+          ∷ [];
       })
   whole q r =
       iterate-add (q * p) r clockOf now
       ∙ ap (iterate r clockOf)
       (only-rounds clockOf (onTop gains) (clock-on-top gains) p now a-round q
-      ∙ ap (λ (l : List ℕ). iterate q (onTop gains) (record { device = now .device; terminals = l })) (three (now .terminals) as-few)
+      ∙ ap (λ (l : List ℕ). iterate q (onTop gains) (record { device = now .device; terminals = l })) (three 0 (now .terminals) as-few)
       ∙ tops q (now .device) (gain 0) (gain 1) (gain 2) _ _ _)

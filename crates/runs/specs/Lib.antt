@@ -1,2 +1,3 @@
 pub mod Ticks
 pub mod Free
+pub mod Stretch

@@ -1,0 +1,231 @@
+-- Paper 01, "Counters": the count and the report of a free-running counter over T n, by division. One law over the counter's place.
+-- Assumes nothing.
+use Prim.Native.Nat.{ℕ, zero, suc, _+_, _*_, _/_, _%_, _<_}
+use mathlib.Core.Path.{_≡_, refl, sym, ap, subst, _∙_}
+use mathlib.Core.Bool.{Bool, true, false, not, _&&_, _||_, cond, false≢true}
+use mathlib.Core.List.{List, [], _∷_}
+use native.Mathlib.Numerals.{add-one}
+use native.Mathlib.Nat.{add-zero}
+use native.Mathlib.Omega.{arith}
+use lib.Dec.{T, eqb, eqb→eq}
+use lib.ListN.{getD}
+use Rattle.rules.specs.declared.Device.{Device}
+use Rattle.rules.specs.declared.Counter.{Counter}
+use Rattle.rules.specs.declared.Counted.{Counted}
+use Rattle.rules.specs.declared.Outcome.{Outcome}
+use Rattle.rules.specs.declared.Stepped.{Stepped}
+use Rattle.rules.specs.declared.Ran.{Ran}
+use Rattle.rules.specs.Byte.{bit, num}
+use Rattle.rules.specs.Record.{counterAt, withPhase, resetOf}
+use Rattle.rules.specs.Registers.{counterOn, lc, reset}
+use Rattle.rules.specs.Counters.{continuous, countInput, gateInput, square, lessOne, countOf}
+use Rattle.rules.specs.Step.{linesAt, stepOf, counted, clockOf, iterate, ranOf}
+use Rattle.rules.specs.Sound.{sameOf, resetOnly, soundOf}
+use Rattle.rules.specs.Events.{answerOf, outcomeOf, eventOf}
+use Rattle.runs.specs.Ticks.{tick}
+use Rattle.runs.specs.Free.{Free, timerClocks, fullOf, terminalsAfter, countAfter}
+use Rattle.runs.proofs.Reports.{clock-first, clock-timer, added-at, num-le}
+use Rattle.runs.proofs.Frame.{frame-step}
+use Rattle.runs.proofs.Demand3.{tick-ran}
+use Rattle.runs.proofs.Countdown.{countdown, counts-by-division}
+use Rattle.runs.proofs.Lines.{lines-phase, gate-kept}
+use Rattle.runs.proofs.Timer.{count-last, count-more, clocked}
+
+-- ---- one count is one step of the countdown
+module _ (c : Counter) (con : continuous c ≡ true) (sq : square c ≡ false) where
+  -- what a count leaves as it is
+  record Kept (b : Counter) : Type 0 where
+    mode : b .mode ≡ c .mode
+    constant : b .constant ≡ c .constant
+    gcb : b .gcb ≡ c .gcb
+    cip : b .cip ≡ c .cip
+
+  kept-by : (v : Bool) → eqb (lessOne 65536 (c .count)) 0 ≡ v → Kept (countOf c .counter)
+  kept-by true e = rw (count-last c con sq e) (record { mode = refl; constant = refl; gcb = refl; cip = refl })
+  kept-by false e = rw (count-more c con sq e) (record { mode = refl; constant = refl; gcb = refl; cip = refl })
+
+  count-kept : Kept (countOf c .counter)
+  count-kept = kept-by _ refl
+
+  counts-by : (v : Bool) (n : ℕ) → eqb (lessOne 65536 (c .count)) 0 ≡ v
+      → (countOf c .counter .count, n + num (countOf c .terminal)) ≡ countdown 65536 (c .constant) (c .count, n)
+  unfolding countdown
+  counts-by true n e = rw (count-last c con sq e) (simp e)
+  counts-by false n e = rw (count-more c con sq e) (simp (e, add-zero))
+
+  count-counts : (n : ℕ) → (countOf c .counter .count, n + num (countOf c .terminal)) ≡ countdown 65536 (c .constant) (c .count, n)
+  count-counts n = counts-by _ n refl
+
+-- ---- a clock leaves a free-running counter free-running
+free-phase : (d : Device) (v : Bool) (i : ℕ) → Free d i → Free (withPhase d v) i
+free-phase d v i f =
+    record {
+      enabled = f .enabled;
+      cip = f .cip;
+      gcb = f .gcb;
+      gate = ap (λ (w : ℕ). not (gateInput (counterAt d i)) || bit w 3) (lines-phase d v i) ∙ f .gate;
+      clocked = f .clocked;
+      continues = f .continues;
+      notSquare = f .notSquare;
+      unlinked = f .unlinked;
+    }
+
+module _ (d : Device) (i : ℕ) (h : i < 3) (f : Free d i) where
+  abbrev stepped : Device
+  stepped = stepOf true d (withPhase d false) .device
+
+  stepped-kept : Kept (counterAt d i) (f .continues) (f .notSquare) (counterAt stepped i)
+  stepped-kept = rw (clocked d i h f .counter) (count-kept (counterAt d i) (f .continues) (f .notSquare))
+
+  free-step : Free stepped i
+  free-step =
+      let k = stepped-kept in
+      let r = frame-step true d (withPhase d false) in
+      record {
+        enabled = ap (λ (b : ℕ). counterOn b i) (r .config) ∙ f .enabled;
+        cip = k .cip ∙ f .cip;
+        gcb = k .gcb ∙ f .gcb;
+        gate = ap (λ (m : ℕ). not (bit m 3) || bit (linesAt stepped i) 3) (k .mode)
+          ∙ ap (λ (v : Bool). not (gateInput (counterAt d i)) || v) (gate-kept (withPhase d false) stepped r i h)
+          ∙ free-phase d false i f .gate;
+        clocked = ap (λ (m : ℕ). bit m 5) (k .mode) ∙ f .clocked;
+        continues = ap (λ (m : ℕ). bit m 7) (k .mode) ∙ f .continues;
+        notSquare = ap (λ (m : ℕ). eqb (m % 4) 2) (k .mode) ∙ f .notSquare;
+        unlinked = λ e. ap (λ (b : ℕ). b % 4) (r .config) ∙ f .unlinked e;
+      }
+
+-- ---- n clocks
+none-yet : (i : ℕ) → getD {A = ℕ} (0 ∷ 0 ∷ 0 ∷ []) i 0 ≡ 0
+none-yet zero = refl
+none-yet (suc zero) = refl
+none-yet (suc (suc zero)) = refl
+none-yet (suc (suc (suc i))) = refl
+
+module _ (d : Device) (i : ℕ) (h : i < 3) where
+  abbrev start : Ran
+  start = record { device = d; terminals = 0 ∷ 0 ∷ 0 ∷ [] }
+
+  -- after n clocks, of which k were timer clocks
+  record After (n : ℕ) (s : Ran) : Type 0 where
+    k : ℕ
+    free : Free (s .device) i
+    running : reset (s .device) ≡ false
+    constant : counterAt (s .device) i .constant ≡ counterAt d i .constant
+    sum : 2 * k + num (s .device .phase) ≡ n + num (d .phase)
+    state : (counterAt (s .device) i .count, getD (s .terminals) i 0)
+      ≡ iterate k (countdown 65536 (counterAt d i .constant)) (counterAt d i .count, 0)
+
+  first : (n : ℕ) (s : Ran) → After n s → s .device .phase ≡ false → After (suc n) (clockOf s)
+  first n s r p =
+      let b = ap num p in
+      rw (clock-first s (r .running) p)
+      (record {
+        k = r .k;
+        free = free-phase (s .device) true i (r .free);
+        running = r .running;
+        constant = r .constant;
+        sum = omega (arith, r .sum, b);
+        state = r .state;
+      })
+
+  timer : (n : ℕ) (s : Ran) → After n s → s .device .phase ≡ true → After (suc n) (clockOf s)
+  unfolding iterate counted
+  timer n s r p =
+      let b = ap num p in
+      let g = frame-step true (s .device) (withPhase (s .device) false) in
+      let q = ap num (g .phase) in
+      let w = clocked (s .device) i h (r .free) in
+      let t = stepOf true (s .device) (withPhase (s .device) false) in
+      rw (clock-timer s (r .running) p)
+      (record {
+        k = suc (r .k);
+        free = free-step (s .device) i h (r .free);
+        running = ap (λ (m : ℕ). bit m 0) (g .master) ∙ r .running;
+        constant = stepped-kept (s .device) i h (r .free) .constant ∙ r .constant;
+        sum = omega (arith, r .sum, b, q);
+        state = ap (λ (n : ℕ). (counterAt (t .device) i .count, n)) (added-at (s .terminals) t i h)
+          ∙ ap (λ (c : Counter). (c .count, getD (s .terminals) i 0 + num (getD (t .terminals) i false))) (w .counter)
+          ∙ ap (λ (v : Bool). (countOf (counterAt (s .device) i) .counter .count, getD (s .terminals) i 0 + num v)) (w .terminal)
+          ∙ count-counts (counterAt (s .device) i) (r .free .continues) (r .free .notSquare) (getD (s .terminals) i 0)
+          ∙ ap (λ (t : ℕ). countdown 65536 t (counterAt (s .device) i .count, getD (s .terminals) i 0)) (r .constant)
+          ∙ ap (countdown 65536 (counterAt d i .constant)) (r .state);
+      })
+
+  next-by : (v : Bool) (n : ℕ) (s : Ran) → After n s → s .device .phase ≡ v → After (suc n) (clockOf s)
+  next-by true n s r p = timer n s r p
+  next-by false n s r p = first n s r p
+
+  after : (n : ℕ) → reset d ≡ false → Free d i → After n (iterate n clockOf start)
+  unfolding iterate
+  after zero r f =
+      record {
+        k = 0;
+        free = f;
+        running = r;
+        constant = refl;
+        sum = omega arith;
+        state = ap (λ (n : ℕ). (counterAt d i .count, n)) (none-yet i);
+      }
+  after (suc n) r f = next-by _ n (iterate n clockOf start) (after n r f) refl
+
+-- ---- a free-running counter's device is not held
+and-left : (a b : Bool) → (a && b) ≡ true → a ≡ true
+and-left true b e = refl
+and-left false b e = e
+
+and-right : (a b : Bool) → (a && b) ≡ true → b ≡ true
+and-right true b e = e
+and-right false b e = absurd (false≢true e)
+
+same-config : (d e : Device) → sameOf d e ≡ true → eqb (d .config) (e .config) ≡ true
+unfolding sameOf
+same-config d e s = search (and-left, and-right) depth 9
+
+sound-reset : (d : Device) → soundOf d ≡ true → resetOnly d ≡ true
+unfolding soundOf
+sound-reset d s = search (and-left, and-right)
+
+reset-config : (d : Device) → soundOf d ≡ true → reset d ≡ true → d .config ≡ 0
+unfolding resetOnly resetOf
+reset-config d s r =
+    let o : (not (reset d) || sameOf d (resetOf d)) ≡ true = sound-reset d s in
+    let e : sameOf d (resetOf d) ≡ true = ap (λ (v : Bool). not v || sameOf d (resetOf d)) (sym r) ∙ o in
+    eqb→eq _ _ (subst T (sym (same-config d (resetOf d) e)) tt)
+
+off : (i : ℕ) → i < 3 → counterOn 0 i ≡ false
+unfolding counterOn
+off zero h = refl
+off (suc zero) h = refl
+off (suc (suc zero)) h = refl
+off (suc (suc (suc i))) h = absurd (omega arith)
+
+not-held : (v : Bool) (d : Device) (i : ℕ) → i < 3 → soundOf d ≡ true → Free d i → reset d ≡ v → reset d ≡ false
+not-held false d i h s f r = r
+not-held true d i h s f r =
+    absurd (false≢true (sym (off i h) ∙ ap (λ (b : ℕ). counterOn b i) (sym (reset-config d s r)) ∙ f .enabled))
+
+-- ---- the law
+-- counter i's count and report after T n, by division
+pub record Divided (d : Device) (i n : ℕ) : Type 0 where
+  pub count : counterAt (eventOf d (tick n) .device) i .count
+    ≡ countAfter (fullOf 65536 (counterAt d i .count)) (fullOf 65536 (counterAt d i .constant)) (timerClocks d n) % 65536
+  pub report : getD (eventOf d (tick n) .answer .terminals) i 0
+    ≡ terminalsAfter (fullOf 65536 (counterAt d i .count)) (fullOf 65536 (counterAt d i .constant)) (timerClocks d n)
+
+event-view : (d : Device) (i n : ℕ) → soundOf d ≡ true
+    → _≡_ {A = ℕ × ℕ} (counterAt (eventOf d (tick n) .device) i .count, getD (eventOf d (tick n) .answer .terminals) i 0)
+    (counterAt (ranOf n d .device) i .count, getD (ranOf n d .terminals) i 0)
+unfolding outcomeOf answerOf
+event-view d i n s = ap (λ (o : Outcome). (counterAt (o .device) i .count, getD (o .answer .terminals) i 0)) (tick-ran d n s)
+
+pub division : (d : Device) (i n : ℕ) → i < 3 → soundOf d ≡ true → Free d i → counterAt d i .count < 65536 → counterAt d i .constant < 65536
+    → Divided d i n
+unfolding ranOf
+division d i n h s f hc ht =
+    let a = after d i h n (not-held _ d i h s f refl) f in
+    let b = num-le (iterate n clockOf (record { device = d; terminals = 0 ∷ 0 ∷ 0 ∷ [] }) .device .phase) in
+    let e : a .k ≡ timerClocks d n = omega (arith, a .sum, b) in
+    let t = counterAt d i .constant in
+    let p = event-view d i n s ∙ a .state ∙ ap (λ (k : ℕ). iterate k (countdown 65536 t) (counterAt d i .count, 0)) e
+      ∙ counts-by-division 65536 (counterAt d i .count) t hc ht (timerClocks d n) in
+    record { count = ap (λ (w : ℕ × ℕ). w .0) p; report = ap (λ (w : ℕ × ℕ). w .1) p }

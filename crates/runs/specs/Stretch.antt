@@ -1,0 +1,26 @@
+-- A stretch of clocks that only takes one from some counts at each timer clock.
+-- Assumes nothing.
+use Prim.Native.Nat.{ℕ, _-_}
+use mathlib.Core.Bool.{Bool, true, false, cond}
+use mathlib.Core.List.{List, [], _∷_}
+use Rattle.rules.specs.declared.Device.{Device}
+use Rattle.rules.specs.declared.Counter.{Counter}
+use Rattle.rules.specs.declared.Ran.{Ran}
+use Rattle.rules.specs.Record.{counterAt, withConfig}
+use Rattle.rules.specs.Counters.{at}
+
+-- a counter k counts later, none of them terminal, if it moves
+unfoldable pub lowerOf : ℕ → Bool → Counter → Counter
+lowerOf k moves c = cond moves (at c (c .count - k) (c .cip) (c .half)) c
+
+-- the record with other counters
+abbrev pub withCounters : Device → Counter → Counter → Counter → Device
+withCounters d x y z = withConfig d (d .config) (x ∷ y ∷ z ∷ [])
+
+-- the record k timer clocks later, where a, b, c tell which of the counters move
+unfoldable pub loweredOf : ℕ → Bool → Bool → Bool → Device → Device
+loweredOf k a b c d = withCounters d (lowerOf k a (counterAt d 0)) (lowerOf k b (counterAt d 1)) (lowerOf k c (counterAt d 2))
+
+-- and a run so, with no terminal more
+abbrev pub movedOf : ℕ → Bool → Bool → Bool → Ran → Ran
+movedOf k a b c s = record { device = loweredOf k a b c (s .device); terminals = s .terminals }
