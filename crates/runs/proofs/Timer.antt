@@ -1,8 +1,8 @@
 -- A timer clock at a free-running counter is one count of it, and leaves it free-running.
 -- Assumes nothing.
-use Prim.Native.Nat.{ℕ, zero, suc, _+_, _*_, _<_, _≤_}
-use mathlib.Core.Path.{_≡_, refl, sym, ap, _∙_}
-use mathlib.Core.Bool.{Bool, true, false, not, _&&_, _||_, cond, and-false, not-and-self, false≢true}
+use Prim.Native.Nat.{ℕ, zero, suc, _<_}
+use mathlib.Core.Path.{_≡_, refl, ap, _∙_}
+use mathlib.Core.Bool.{Bool, true, false, not, _||_, and-false, not-and-self, false≢true}
 use mathlib.Core.List.{List, [], _∷_}
 use native.Mathlib.Omega.{arith}
 use lib.Dec.{eqb}
@@ -13,16 +13,15 @@ use Rattle.rules.specs.declared.Counter.{Counter}
 use Rattle.rules.specs.declared.Counted.{Counted}
 use Rattle.rules.specs.declared.Link.{Link}
 use Rattle.rules.specs.declared.Turned.{Turned}
-use Rattle.rules.specs.declared.Stepped.{Stepped}
 use Rattle.rules.specs.Byte.{bit}
 use Rattle.rules.specs.Record.{counterAt, idle, withPhase}
 use Rattle.rules.specs.Registers.{counterEnabled, lc}
 use Rattle.rules.specs.PortData.{seenAt}
-use Rattle.rules.specs.Counters.{continuous, square, countInput, triggerInput, gateInput, at, lessOne, terminalOf, countOf, outputOf, unlinked, linkOf, reachOf, counts, turnOf}
-use Rattle.rules.specs.Step.{linesAt, turned, counterTurn, settled, stepOf}
+use Rattle.rules.specs.Counters.{continuous, square, countInput, gateInput, at, lessOne, terminalOf, countOf, outputOf, unlinked, linkOf, reachOf, counts, turnOf}
+use Rattle.rules.specs.Step.{linesAt, turned, counterTurn, stepOf}
 use Rattle.runs.specs.Free.{Free}
-use Rattle.runs.proofs.Frame.{Frame, frame-trans, frame-step, frame-turn, turnAt, turn-counters, settled-counters}
-use Rattle.runs.proofs.Lines.{lines-phase, gate-kept}
+use Rattle.runs.proofs.Frame.{frame-turn, turnAt, turn-counters, settled-counters}
+use Rattle.runs.proofs.Lines.{lines-phase}
 
 -- ---- one count of a continuous counter that is not square
 module _ (c : Counter) (con : continuous c ≡ true) (sq : square c ≡ false) where
