@@ -15,8 +15,8 @@ use Rattle.rules.specs.declared.Link.{Link}
 use Rattle.rules.specs.declared.Stepped.{Stepped}
 use Rattle.rules.specs.declared.Ran.{Ran}
 use Rattle.rules.specs.Byte.{bit, num}
-use Rattle.rules.specs.Record.{counterAt, idle, withPhase}
-use Rattle.rules.specs.Registers.{counterEnabled, lc, reset}
+use Rattle.rules.specs.Record.{withConfig, counterAt, idle, withPhase}
+use Rattle.rules.specs.Registers.{counterOn, counterEnabled, lc, reset}
 use Rattle.rules.specs.PortData.{seenAt}
 use Rattle.rules.specs.Counters.{at, lessOne, countOf, outputOf, unlinked, linkOf, reachOf, counts, turnOf}
 use Rattle.rules.specs.Step.{linesAt, eventAt, turned, counterTurn, settled, stepOf, counted, clockOf, iterate}
@@ -176,7 +176,7 @@ module _ (d : Device) (x y z : Counter) where
       -- what a later turn finds
       found : (i : ℕ) (k : Link) (c : Counter) (f : Device) → f .config ≡ d .config → counterAt f i ≡ c → given whole i k f ≡ plain whole i k c
       found i k c f p q =
-          ap₂ (λ (n : ℕ) (b : Counter). turnOf (Rattle.rules.specs.Registers.counterOn n i) (reachOf b k true (linesAt whole i) (linesAt (low whole) i)) b) p q
+          ap₂ (λ (n : ℕ) (b : Counter). turnOf (counterOn n i) (reachOf b k true (linesAt whole i) (linesAt (low whole) i)) b) p q
           ∙ still i k c
 
       linked : link2 whole ≡ link
@@ -302,7 +302,7 @@ module _ (d : Device) (x y z : Counter) (a b c : Bool) (sx : x .count < 65536) (
           let l = lowerOf j a x ∷ lowerOf j b y ∷ lowerOf j c z ∷ [] in
           ap₂ (λ (u v : ℕ). settled u v (low (after (suc j)))) (seen-alike base l as-base 0) (seen-alike base l as-base 1)
           ∙ settled-alike (seenAt base 0) (seenAt base 1) (low (after 1)) m as-one
-          ∙ ap (λ (f : Device). Rattle.rules.specs.Record.withConfig f (f .config) m) (settles d x y z (lowerOf 1 a x) (lowerOf 1 b y) (lowerOf 1 c z) e)
+          ∙ ap (λ (f : Device). withConfig f (f .config) m) (settles d x y z (lowerOf 1 a x) (lowerOf 1 b y) (lowerOf 1 c z) e)
 
       next : stepOf true (after j) (low (after j)) ≡ record { device = low (after (suc j)); terminals = false ∷ false ∷ false ∷ [] }
       next =
@@ -393,7 +393,7 @@ module _ (s : Ran) (a b c : Bool) (full : length (s .device .counters) ≡ 3) (f
   split =
       λ i.
       record {
-        device = Rattle.rules.specs.Record.withConfig (s .device) (s .device .config) (three idle (s .device .counters) full i);
+        device = withConfig (s .device) (s .device .config) (three idle (s .device .counters) full i);
         terminals = three 0 (s .terminals) few i;
       }
 
