@@ -8,7 +8,7 @@ use native.Mathlib.Nat.{mod-lt, eq-or-lt-of-le, le-of-suc-le-suc}
 use native.Mathlib.Omega.{arith}
 use lib.Dec.{T, eqb, ltb, lit<, eqb→eq, ltb→lt}
 use lib.Bits.{bitAnd, bitOr, bitXor, and-lt, xor-lt, and-shr, or-shr, xor-shr, and-mod, or-mod, xor-mod}
-use Rattle.bits.proofs.Truth.{rows, all2, all8, same}
+use Rattle.bits.proofs.Truth.{and-left, and-right, rows, all2, all8, same}
 use Rattle.rules.specs.Byte.{bit, num, byteOf, differs, every, any}
 
 -- what holds at 0 and 1 holds below 2
@@ -59,14 +59,6 @@ num-bit x k = below2 (λ (d : ℕ). num (eqb d 1) ≡ d) refl refl (x / 2 ^ k % 
 abbrev pub all : (ℕ → Bool) → ℕ → Bool
 all f zero = true
 all f (suc n) = f n && all f n
-
-and-left : (a b : Bool) → T (a && b) → T a
-and-left true b t = tt
-and-left false b t = t
-
-and-right : (a b : Bool) → T (a && b) → T b
-and-right true b t = t
-and-right false b t = absurd t
 
 pub below : (f : ℕ → Bool) (n : ℕ) → T (all f n) → (k : ℕ) → k < n → T (f k)
 below f zero t k h = absurd (omega arith)

@@ -53,139 +53,56 @@ ofPort p = 1 + 2 * p
 abbrev pub ofCounter : ℕ → ℕ
 ofCounter i = 4 - 2 * i
 
--- ---- the record with one part replaced
-abbrev pub withMaster : Device → ℕ → Device
-withMaster d b =
+-- ---- the record of its parts, and the record with one part replaced
+abbrev pub device : ℕ → ℕ → List ℕ → List Port → List Pattern → List Counter → List Source → Bool → Bool → Device
+device m f vs qs ps cs ss i h =
     record {
-      master = b;
-      config = d .config;
-      vectors = d .vectors;
-      ports = d .ports;
-      patterns = d .patterns;
-      counters = d .counters;
-      sources = d .sources;
-      iei = d .iei;
-      phase = d .phase;
+      master = m;
+      config = f;
+      vectors = vs;
+      ports = qs;
+      patterns = ps;
+      counters = cs;
+      sources = ss;
+      iei = i;
+      phase = h;
     }
+
+abbrev pub withMaster : Device → ℕ → Device
+withMaster d b = device b (d .config) (d .vectors) (d .ports) (d .patterns) (d .counters) (d .sources) (d .iei) (d .phase)
 
 abbrev pub withConfig : Device → ℕ → List Counter → Device
-withConfig d b cs =
-    record {
-      master = d .master;
-      config = b;
-      vectors = d .vectors;
-      ports = d .ports;
-      patterns = d .patterns;
-      counters = cs;
-      sources = d .sources;
-      iei = d .iei;
-      phase = d .phase;
-    }
+withConfig d b cs = device (d .master) b (d .vectors) (d .ports) (d .patterns) cs (d .sources) (d .iei) (d .phase)
 
 abbrev pub withVector : Device → ℕ → ℕ → Device
-withVector d v b =
-    record {
-      master = d .master;
-      config = d .config;
-      vectors = set (d .vectors) v b;
-      ports = d .ports;
-      patterns = d .patterns;
-      counters = d .counters;
-      sources = d .sources;
-      iei = d .iei;
-      phase = d .phase;
-    }
+withVector d v b = device (d .master) (d .config) (set (d .vectors) v b) (d .ports) (d .patterns) (d .counters) (d .sources) (d .iei) (d .phase)
 
 abbrev pub withPorts : Device → List Port → Device
-withPorts d qs =
-    record {
-      master = d .master;
-      config = d .config;
-      vectors = d .vectors;
-      ports = qs;
-      patterns = d .patterns;
-      counters = d .counters;
-      sources = d .sources;
-      iei = d .iei;
-      phase = d .phase;
-    }
+withPorts d qs = device (d .master) (d .config) (d .vectors) qs (d .patterns) (d .counters) (d .sources) (d .iei) (d .phase)
 
 abbrev pub withPort : Device → ℕ → Port → Device
 withPort d p q = withPorts d (set (d .ports) p q)
 
 abbrev pub withPattern : Device → ℕ → Pattern → Device
-withPattern d p q =
-    record {
-      master = d .master;
-      config = d .config;
-      vectors = d .vectors;
-      ports = d .ports;
-      patterns = set (d .patterns) p q;
-      counters = d .counters;
-      sources = d .sources;
-      iei = d .iei;
-      phase = d .phase;
-    }
+withPattern d p q = device (d .master) (d .config) (d .vectors) (d .ports) (set (d .patterns) p q) (d .counters) (d .sources) (d .iei) (d .phase)
 
 abbrev pub withCounter : Device → ℕ → Counter → Device
 withCounter d i c = withConfig d (d .config) (set (d .counters) i c)
 
 abbrev pub withSource : Device → ℕ → Source → Device
-withSource d k s =
-    record {
-      master = d .master;
-      config = d .config;
-      vectors = d .vectors;
-      ports = d .ports;
-      patterns = d .patterns;
-      counters = d .counters;
-      sources = set (d .sources) k s;
-      iei = d .iei;
-      phase = d .phase;
-    }
+withSource d k s = device (d .master) (d .config) (d .vectors) (d .ports) (d .patterns) (d .counters) (set (d .sources) k s) (d .iei) (d .phase)
 
 abbrev pub withIei : Device → Bool → Device
-withIei d v =
-    record {
-      master = d .master;
-      config = d .config;
-      vectors = d .vectors;
-      ports = d .ports;
-      patterns = d .patterns;
-      counters = d .counters;
-      sources = d .sources;
-      iei = v;
-      phase = d .phase;
-    }
+withIei d v = device (d .master) (d .config) (d .vectors) (d .ports) (d .patterns) (d .counters) (d .sources) v (d .phase)
 
 abbrev pub withPhase : Device → Bool → Device
-withPhase d v =
-    record {
-      master = d .master;
-      config = d .config;
-      vectors = d .vectors;
-      ports = d .ports;
-      patterns = d .patterns;
-      counters = d .counters;
-      sources = d .sources;
-      iei = d .iei;
-      phase = v;
-    }
+withPhase d v = device (d .master) (d .config) (d .vectors) (d .ports) (d .patterns) (d .counters) (d .sources) (d .iei) v
 
 -- "Reset (X, or D0 written 1 to 00): register 00 is 01H, all else 0, clock phase 0; outside pins and IEI stay."
 abbrev pub resetTo : ℕ → ℕ → ℕ → Bool → Device
 resetTo a b c v =
-    record {
-      master = 1;
-      config = 0;
-      vectors = 0 ∷ 0 ∷ 0 ∷ [];
-      ports = bare a ∷ bare b ∷ bare c ∷ [];
-      patterns = blank ∷ blank ∷ [];
-      counters = idle ∷ idle ∷ idle ∷ [];
-      sources = quiet ∷ quiet ∷ quiet ∷ quiet ∷ quiet ∷ [];
-      iei = v;
-      phase = false;
-    }
+    device 1 0 (0 ∷ 0 ∷ 0 ∷ []) (bare a ∷ bare b ∷ bare c ∷ []) (blank ∷ blank ∷ []) (idle ∷ idle ∷ idle ∷ [])
+    (quiet ∷ quiet ∷ quiet ∷ quiet ∷ quiet ∷ []) v false
 
 unfoldable pub resetOf : Device → Device
 resetOf d = resetTo (portAt d 0 .outside) (portAt d 1 .outside) (portAt d 2 .outside) (d .iei)

@@ -1,8 +1,8 @@
 -- Leaps: one clock, two, or a stretch of them.
 -- Assumes nothing.
-use Prim.Native.Nat.{ℕ, zero, suc, _+_, _*_, _/_, _%_, _^_, _≤_, _<_}
-use mathlib.Core.Path.{_≡_, refl, sym, ap, ap₂, _∙_}
-use mathlib.Core.Bool.{Bool, true, false, not, _&&_, false≢true}
+use Prim.Native.Nat.{ℕ, _+_, _*_, _/_, _%_, _≤_, _<_}
+use mathlib.Core.Path.{_≡_, sym, ap, _∙_}
+use mathlib.Core.Bool.{Bool, true, _&&_}
 use mathlib.Core.List.{List, [], _∷_}
 use native.Mathlib.Omega.{arith}
 use lib.Dec.{eqb, ltb}
@@ -11,15 +11,12 @@ use borrow.Author.Tests.{eqb-true, ltb-true, ne-eqb}
 use Rattle.rules.specs.declared.Device.{Device}
 use Rattle.rules.specs.declared.Counter.{Counter}
 use Rattle.rules.specs.declared.Ran.{Ran}
-use Rattle.rules.specs.Byte.{bit}
 use Rattle.rules.specs.Record.{counterAt}
 use Rattle.rules.specs.Step.{clockOf, iterate}
 use Rattle.theorems.proofs.Tests.{left, right, each}
 use Rattle.runs.specs.Stretch.{loweredOf, movedOf}
-use Rattle.runs.proofs.Same.{three}
-use Rattle.runs.proofs.Rounds.{once}
+use Rattle.runs.proofs.Lists.{three}
 use Rattle.runs.proofs.Stretch.{stretch}
-use Rattle.runner.specs.declared.Leap.{Leap}
 use Rattle.runner.specs.Chase.{Timer, Moving, Leaps}
 
 -- a test of two, of which the second is a bound
@@ -73,9 +70,9 @@ module _ (s : Ran) (a b c : Bool) (left i j k : ℕ) (first : Roomed (left / 2) 
   far-leaps t two m seen full few e is =
       record {
         ran = ap (λ (f : Device). record { device = f; terminals = s .terminals }) is
-          ∙ sym
-          (stretch s a b c full few (first .3) (second .3) (third .3) (t .running) (t .high) k seen (m .first, m .second, m .third)
-          (roomed .first, roomed .second, roomed .third));
+            ∙ sym
+            (stretch s a b c full few (first .3) (second .3) (third .3) (t .running) (t .high) k seen (m .first, m .second, m .third)
+            (roomed .first, roomed .second, roomed .third));
         some = omega (arith, third .2 (second .2 (first .2 (omega arith))));
         within = reaches;
       }

@@ -1,9 +1,9 @@
 -- From one moment of a run to a later one.
 -- Assumes nothing.
 use Prim.Native.Nat.{ℕ, zero, suc, _+_, _-_, _*_, _/_, _%_, _≤_, _<_}
-use mathlib.Core.Path.{_≡_, refl, sym, ap, ap₂, subst, _∙_}
-use mathlib.Core.List.{List, [], _∷_}
-use native.Mathlib.Nat.{div-add-mod', mod-le, mul-le-mul-left, add-zero, zero-add}
+use mathlib.Core.Path.{_≡_, refl, sym, ap, ap₂, _∙_}
+use mathlib.Core.List.{[], _∷_}
+use native.Mathlib.Nat.{div-add-mod', mod-le, mul-le-mul-left}
 use native.Mathlib.Omega.{arith}
 use lib.Dec.{lit<}
 use lib.ListN.{getD, length}
@@ -45,14 +45,14 @@ unfolding endOf
 later c r k h le ran anchor since left =
     record {
       end = ap₂ (λ (n : ℕ) (s : Ran). iterate n clockOf s) left ran ∙ sym (iterate-add k (c .left - k) clockOf (c .ran))
-        ∙ ap (λ (n : ℕ). iterate n clockOf (c .ran)) (omega arith);
+          ∙ ap (λ (n : ℕ). iterate n clockOf (c .ran)) (omega arith);
       holds = record {
         present = ran ∙ ap (iterate k clockOf) (h .present) ∙ sym (iterate-add (c .since) k clockOf (c .anchor))
-          ∙ ap₂ (λ (n : ℕ) (s : Ran). iterate n clockOf s) (sym since) (sym anchor);
+            ∙ ap₂ (λ (n : ℕ) (s : Ran). iterate n clockOf s) (sym since) (sym anchor);
         time = omega (arith, h .time, since, left);
         room = λ i.
-          let e = ap (λ (s : Ran). getD (s .terminals) i 0) ran in
-          omega (arith, e, at-most i k (c .ran), h .room i, left);
+            let e = ap (λ (s : Ran). getD (s .terminals) i 0) ran in
+            omega (arith, e, at-most i k (c .ran), h .room i, left);
       };
       left = omega (arith, left);
     }
@@ -96,9 +96,9 @@ roundsOf c =
     record {
       device = c .ran .device;
       terminals = afterRounds (c .left / c .since) (getD (c .anchor .terminals) 0 0) (getD (c .ran .terminals) 0 0)
-        ∷ afterRounds (c .left / c .since) (getD (c .anchor .terminals) 1 0) (getD (c .ran .terminals) 1 0)
-        ∷ afterRounds (c .left / c .since) (getD (c .anchor .terminals) 2 0) (getD (c .ran .terminals) 2 0)
-        ∷ [];
+          ∷ afterRounds (c .left / c .since) (getD (c .anchor .terminals) 1 0) (getD (c .ran .terminals) 1 0)
+          ∷ afterRounds (c .left / c .since) (getD (c .anchor .terminals) 2 0) (getD (c .ran .terminals) 2 0)
+          ∷ [];
     }
 
 module _ (c : Chase) (h : Holds c) (few : length (c .anchor .terminals) ≡ 3) (as-few : length (c .ran .terminals) ≡ 3)
@@ -126,8 +126,8 @@ module _ (c : Chase) (h : Holds c) (few : length (c .anchor .terminals) ≡ 3) (
   around r ran anchor since left =
       record {
         end = ap₂ (λ (n : ℕ) (s : Ran). iterate n clockOf s) left ran
-          ∙ sym (whole (c .anchor) (c .ran) (c .since) few as-few (h .present) back (c .left / c .since) (c .left % c .since))
-          ∙ ap (λ (n : ℕ). iterate n clockOf (c .ran)) (div-add-mod' (c .left) (c .since));
+            ∙ sym (whole (c .anchor) (c .ran) (c .since) few as-few (h .present) back (c .left / c .since) (c .left % c .since))
+            ∙ ap (λ (n : ℕ). iterate n clockOf (c .ran)) (div-add-mod' (c .left) (c .since));
         holds = record {
           present = sym anchor ∙ ap (λ (n : ℕ). iterate n clockOf (r .anchor)) (sym since);
           time = omega (arith, mod-le (c .left) (c .since), h .time, since, left);

@@ -195,7 +195,11 @@ fn skipped(c: Chase) -> Chase
     let then = c.anchor;
     let there = Ran {
         device: now.device,
-        terminals: [repeated(then.terminals[0], now.terminals[0], q), repeated(then.terminals[1], now.terminals[1], q), repeated(then.terminals[2], now.terminals[2], q)],
+        terminals: [
+            repeated(then.terminals[0], now.terminals[0], q),
+            repeated(then.terminals[1], now.terminals[1], q),
+            repeated(then.terminals[2], now.terminals[2], q),
+        ],
     };
     Chase {
         ran: there,

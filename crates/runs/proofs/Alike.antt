@@ -1,16 +1,14 @@
 -- Ports, lines and patterns see of the counters their outputs alone: with other counters of the same modes and outputs they do the same.
 -- Assumes nothing.
 use Prim.Native.Nat.{ℕ}
-use mathlib.Core.Path.{_≡_, refl, sym, ap, ap₂, _∙_}
+use mathlib.Core.Path.{_≡_, refl, ap, ap₂, _∙_}
 use mathlib.Core.Bool.{Bool, true, false, not, _&&_, cond}
-use mathlib.Core.List.{List, [], _∷_}
+use mathlib.Core.List.{List}
 use lib.Dec.{eqb}
 use lib.ListN.{getD}
 use Rattle.rules.specs.declared.Device.{Device}
-use Rattle.rules.specs.declared.Port.{Port}
 use Rattle.rules.specs.declared.Counter.{Counter}
-use Rattle.rules.specs.Byte.{bit, byteOf}
-use Rattle.rules.specs.Record.{portAt, patternAt, counterAt, idle, ofPort, withConfig, withPorts, withPattern}
+use Rattle.rules.specs.Record.{portAt, patternAt, counterAt, idle, ofPort, withConfig, withPattern}
 use Rattle.rules.specs.Registers.{portEnabled}
 use Rattle.rules.specs.Counters.{outputOf}
 use Rattle.rules.specs.PortData.{caughtOf, seenOf, pinsOf, pathOf, standing, valueAt, pinsAt, pathAt, seenAt}

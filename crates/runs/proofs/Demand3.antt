@@ -1,10 +1,9 @@
 -- Paper 01, demand 3: one call for n clocks is n calls for one clock, and every cut gives the same.
 -- Each theorem is about the event's own definition, from any record; where it is not sound every T is refused alike.
 -- Assumes nothing.
-use Prim.Native.Nat.{ℕ, zero, suc, _+_, _*_, _/_, _≤_, _<_}
+use Prim.Native.Nat.{ℕ, zero, suc, _+_, _≤_, _<_}
 use mathlib.Core.Path.{_≡_, refl, sym, ap, _∙_}
 use mathlib.Core.Bool.{Bool, true, false, and-false}
-use mathlib.Core.List.{List, [], _∷_}
 use native.Mathlib.Numerals.{add-one}
 use native.Mathlib.Omega.{arith}
 use lib.ListN.{getD}
@@ -12,7 +11,7 @@ use Rattle.rules.specs.declared.Device.{Device}
 use Rattle.rules.specs.declared.Outcome.{Outcome}
 use Rattle.rules.specs.declared.Ran.{Ran}
 use Rattle.rules.specs.Registers.{reset}
-use Rattle.rules.specs.Step.{clockOf, ranOf}
+use Rattle.rules.specs.Step.{ranOf}
 use Rattle.rules.specs.Sound.{soundOf}
 use Rattle.rules.specs.Events.{unknown, noRegister, tooLarge, held, codeOf, done, clocksDone, doneOf, answerOf, unsoundAnswer, outcomeOf, eventOf}
 use Rattle.theorems.proofs.Soundness.{ran-sound}

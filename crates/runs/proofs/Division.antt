@@ -1,27 +1,25 @@
 -- Paper 01, "Counters": the count and the report of a free-running counter over T n, by division. One law over the counter's place.
 -- Assumes nothing.
-use Prim.Native.Nat.{ℕ, zero, suc, _+_, _*_, _/_, _%_, _<_}
-use mathlib.Core.Path.{_≡_, refl, sym, ap, subst, _∙_}
-use mathlib.Core.Bool.{Bool, true, false, not, _&&_, _||_, cond, false≢true}
-use mathlib.Core.List.{List, [], _∷_}
-use native.Mathlib.Numerals.{add-one}
+use Prim.Native.Nat.{ℕ, zero, suc, _+_, _*_, _%_, _<_}
+use mathlib.Core.Path.{_≡_, refl, sym, ap, _∙_}
+use mathlib.Core.Bool.{Bool, true, false, not, _||_, false≢true}
+use mathlib.Core.List.{[], _∷_}
 use native.Mathlib.Nat.{add-zero}
 use native.Mathlib.Omega.{arith}
-use lib.Dec.{T, eqb, eqb→eq}
+use lib.Dec.{eqb}
 use lib.ListN.{getD}
 use Rattle.rules.specs.declared.Device.{Device}
 use Rattle.rules.specs.declared.Counter.{Counter}
-use Rattle.rules.specs.declared.Counted.{Counted}
 use Rattle.rules.specs.declared.Outcome.{Outcome}
-use Rattle.rules.specs.declared.Stepped.{Stepped}
 use Rattle.rules.specs.declared.Ran.{Ran}
 use Rattle.rules.specs.Byte.{bit, num}
-use Rattle.rules.specs.Record.{counterAt, withPhase, resetOf}
-use Rattle.rules.specs.Registers.{counterOn, lc, reset}
-use Rattle.rules.specs.Counters.{continuous, countInput, gateInput, square, lessOne, countOf}
+use Rattle.rules.specs.Record.{counterAt, withPhase}
+use Rattle.rules.specs.Registers.{counterOn, reset}
+use Rattle.rules.specs.Counters.{continuous, gateInput, square, lessOne, countOf}
 use Rattle.rules.specs.Step.{linesAt, stepOf, counted, clockOf, iterate, ranOf}
-use Rattle.rules.specs.Sound.{sameOf, resetOnly, soundOf}
+use Rattle.rules.specs.Sound.{soundOf}
 use Rattle.rules.specs.Events.{answerOf, outcomeOf, eventOf}
+use Rattle.theorems.proofs.Clauses.{sound-parts}
 use Rattle.runs.specs.Ticks.{tick}
 use Rattle.runs.specs.Free.{Free, timerClocks, fullOf, terminalsAfter, countAfter}
 use Rattle.runs.proofs.Reports.{clock-first, clock-timer, added-at, num-le}
@@ -86,8 +84,8 @@ module _ (d : Device) (i : ℕ) (h : i < 3) (f : Free d i) where
         cip = k .cip ∙ f .cip;
         gcb = k .gcb ∙ f .gcb;
         gate = ap (λ (m : ℕ). not (bit m 3) || bit (linesAt stepped i) 3) (k .mode)
-          ∙ ap (λ (v : Bool). not (gateInput (counterAt d i)) || v) (gate-kept (withPhase d false) stepped r i h)
-          ∙ free-phase d false i f .gate;
+            ∙ ap (λ (v : Bool). not (gateInput (counterAt d i)) || v) (gate-kept (withPhase d false) stepped r i h)
+            ∙ free-phase d false i f .gate;
         clocked = ap (λ (m : ℕ). bit m 5) (k .mode) ∙ f .clocked;
         continues = ap (λ (m : ℕ). bit m 7) (k .mode) ∙ f .continues;
         notSquare = ap (λ (m : ℕ). eqb (m % 4) 2) (k .mode) ∙ f .notSquare;
@@ -113,7 +111,7 @@ module _ (d : Device) (i : ℕ) (h : i < 3) where
     constant : counterAt (s .device) i .constant ≡ counterAt d i .constant
     sum : 2 * k + num (s .device .phase) ≡ n + num (d .phase)
     state : (counterAt (s .device) i .count, getD (s .terminals) i 0)
-      ≡ iterate k (countdown 65536 (counterAt d i .constant)) (counterAt d i .count, 0)
+        ≡ iterate k (countdown 65536 (counterAt d i .constant)) (counterAt d i .count, 0)
 
   first : (n : ℕ) (s : Ran) → After n s → s .device .phase ≡ false → After (suc n) (clockOf s)
   first n s r p =
@@ -144,11 +142,11 @@ module _ (d : Device) (i : ℕ) (h : i < 3) where
         constant = stepped-kept (s .device) i h (r .free) .constant ∙ r .constant;
         sum = omega (arith, r .sum, b, q);
         state = ap (λ (n : ℕ). (counterAt (t .device) i .count, n)) (added-at (s .terminals) t i h)
-          ∙ ap (λ (c : Counter). (c .count, getD (s .terminals) i 0 + num (getD (t .terminals) i false))) (w .counter)
-          ∙ ap (λ (v : Bool). (countOf (counterAt (s .device) i) .counter .count, getD (s .terminals) i 0 + num v)) (w .terminal)
-          ∙ count-counts (counterAt (s .device) i) (r .free .continues) (r .free .notSquare) (getD (s .terminals) i 0)
-          ∙ ap (λ (t : ℕ). countdown 65536 t (counterAt (s .device) i .count, getD (s .terminals) i 0)) (r .constant)
-          ∙ ap (countdown 65536 (counterAt d i .constant)) (r .state);
+            ∙ ap (λ (c : Counter). (c .count, getD (s .terminals) i 0 + num (getD (t .terminals) i false))) (w .counter)
+            ∙ ap (λ (v : Bool). (countOf (counterAt (s .device) i) .counter .count, getD (s .terminals) i 0 + num v)) (w .terminal)
+            ∙ count-counts (counterAt (s .device) i) (r .free .continues) (r .free .notSquare) (getD (s .terminals) i 0)
+            ∙ ap (λ (t : ℕ). countdown 65536 t (counterAt (s .device) i .count, getD (s .terminals) i 0)) (r .constant)
+            ∙ ap (countdown 65536 (counterAt d i .constant)) (r .state);
       })
 
   next-by : (v : Bool) (n : ℕ) (s : Ran) → After n s → s .device .phase ≡ v → After (suc n) (clockOf s)
@@ -168,49 +166,19 @@ module _ (d : Device) (i : ℕ) (h : i < 3) where
       }
   after (suc n) r f = next-by _ n (iterate n clockOf start) (after n r f) refl
 
--- ---- a free-running counter's device is not held
-and-left : (a b : Bool) → (a && b) ≡ true → a ≡ true
-and-left true b e = refl
-and-left false b e = e
-
-and-right : (a b : Bool) → (a && b) ≡ true → b ≡ true
-and-right true b e = e
-and-right false b e = absurd (false≢true e)
-
-same-config : (d e : Device) → sameOf d e ≡ true → eqb (d .config) (e .config) ≡ true
-unfolding sameOf
-same-config d e s = search (and-left, and-right) depth 9
-
-sound-reset : (d : Device) → soundOf d ≡ true → resetOnly d ≡ true
-unfolding soundOf
-sound-reset d s = search (and-left, and-right)
-
-reset-config : (d : Device) → soundOf d ≡ true → reset d ≡ true → d .config ≡ 0
-unfolding resetOnly resetOf
-reset-config d s r =
-    let o : (not (reset d) || sameOf d (resetOf d)) ≡ true = sound-reset d s in
-    let e : sameOf d (resetOf d) ≡ true = ap (λ (v : Bool). not v || sameOf d (resetOf d)) (sym r) ∙ o in
-    eqb→eq _ _ (subst T (sym (same-config d (resetOf d) e)) tt)
-
-off : (i : ℕ) → i < 3 → counterOn 0 i ≡ false
-unfolding counterOn
-off zero h = refl
-off (suc zero) h = refl
-off (suc (suc zero)) h = refl
-off (suc (suc (suc i))) h = absurd (omega arith)
-
+-- ---- a free-running counter's device is not held: reset leaves CIP 0
 not-held : (v : Bool) (d : Device) (i : ℕ) → i < 3 → soundOf d ≡ true → Free d i → reset d ≡ v → reset d ≡ false
 not-held false d i h s f r = r
 not-held true d i h s f r =
-    absurd (false≢true (sym (off i h) ∙ ap (λ (b : ℕ). counterOn b i) (sym (reset-config d s r)) ∙ f .enabled))
+    absurd (false≢true (sym (ap (λ (c : Counter). c .cip) (sound-parts d s .base .held r .counters i h)) ∙ f .cip))
 
 -- ---- the law
 -- counter i's count and report after T n, by division
 pub record Divided (d : Device) (i n : ℕ) : Type 0 where
   pub count : counterAt (eventOf d (tick n) .device) i .count
-    ≡ countAfter (fullOf 65536 (counterAt d i .count)) (fullOf 65536 (counterAt d i .constant)) (timerClocks d n) % 65536
+      ≡ countAfter (fullOf 65536 (counterAt d i .count)) (fullOf 65536 (counterAt d i .constant)) (timerClocks d n) % 65536
   pub report : getD (eventOf d (tick n) .answer .terminals) i 0
-    ≡ terminalsAfter (fullOf 65536 (counterAt d i .count)) (fullOf 65536 (counterAt d i .constant)) (timerClocks d n)
+      ≡ terminalsAfter (fullOf 65536 (counterAt d i .count)) (fullOf 65536 (counterAt d i .constant)) (timerClocks d n)
 
 event-view : (d : Device) (i n : ℕ) → soundOf d ≡ true
     → _≡_ {A = ℕ × ℕ} (counterAt (eventOf d (tick n) .device) i .count, getD (eventOf d (tick n) .answer .terminals) i 0)
@@ -227,5 +195,5 @@ division d i n h s f hc ht =
     let e : a .k ≡ timerClocks d n = omega (arith, a .sum, b) in
     let t = counterAt d i .constant in
     let p = event-view d i n s ∙ a .state ∙ ap (λ (k : ℕ). iterate k (countdown 65536 t) (counterAt d i .count, 0)) e
-      ∙ counts-by-division 65536 (counterAt d i .count) t hc ht (timerClocks d n) in
+    ∙ counts-by-division 65536 (counterAt d i .count) t hc ht (timerClocks d n) in
     record { count = ap (λ (w : ℕ × ℕ). w .0) p; report = ap (λ (w : ℕ × ℕ). w .1) p }

@@ -3,20 +3,15 @@
 use Prim.Native.Nat.{ℕ}
 use mathlib.Core.Path.{_≡_, refl, _∙_}
 use mathlib.Core.Bool.{Bool, true, false}
-use mathlib.Core.List.{List, [], _∷_}
-use lib.ListN.{length, length-set, set}
+use lib.ListN.{set}
 use Rattle.rules.specs.declared.Device.{Device}
-use Rattle.rules.specs.declared.Port.{Port}
-use Rattle.rules.specs.declared.Counter.{Counter}
 use Rattle.rules.specs.declared.Counted.{Counted}
 use Rattle.rules.specs.declared.Link.{Link}
-use Rattle.rules.specs.Record.{portAt, patternAt, counterAt, sourceAt, ofPort, ofCounter, withCounter, withPattern, withSource}
-use Rattle.rules.specs.Registers.{counterEnabled, portEnabled}
-use Rattle.rules.specs.PortData.{seenAt}
-use Rattle.rules.specs.Counters.{reachOf, turnOf, outputOf, unlinked, linkOf}
-use Rattle.rules.specs.Patterns.{matchOf, withPmf}
-use Rattle.rules.specs.Interrupts.{raisedOf}
-use Rattle.rules.specs.Step.{linesAt, eventAt, turned, counterTurn, withCatcher, caughtAt, catchers, matchedBy, patternTurn, settled, stepOf}
+use Rattle.rules.specs.Record.{portAt, patternAt, counterAt, ofPort, ofCounter, withCounter, withPattern}
+use Rattle.rules.specs.Registers.{counterEnabled}
+use Rattle.rules.specs.Counters.{reachOf, turnOf}
+use Rattle.rules.specs.Patterns.{withPmf}
+use Rattle.rules.specs.Step.{eventAt, turned, counterTurn, withCatcher, caughtAt, catchers, matchedBy, patternTurn, settled, stepOf}
 
 -- e is d but for its counters, catchers, patterns' PMF and sources: of B and C, whose bits are the counters' lines, all but the catchers
 pub record Frame (d e : Device) : Type 0 where

@@ -6,7 +6,7 @@ pub mod Countdown
 pub mod Lines
 pub mod Timer
 pub mod Division
-pub mod Same
+pub mod Lists
 pub mod Rounds
 pub mod Alike
 pub mod Stretch

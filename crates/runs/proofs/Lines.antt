@@ -1,16 +1,16 @@
 -- A counter's count, trigger and gate lines go by the settings, output registers and outside levels of B and C alone, so in a
 -- timer clock none moves.
 -- Assumes nothing.
-use Prim.Native.Nat.{ℕ, zero, suc, _+_, _*_, _/_, _%_, _^_, _<_}
+use Prim.Native.Nat.{ℕ, zero, suc, _/_, _%_, _<_}
 use mathlib.Core.Path.{_≡_, refl, sym, ap, _∙_}
-use mathlib.Core.Bool.{Bool, true, false}
+use mathlib.Core.Bool.{Bool, false}
 use native.Mathlib.Omega.{arith}
 use lib.Dec.{eqb, lit<}
 use Rattle.bits.proofs.Laws.{bit-byte}
 use Rattle.rules.specs.declared.Device.{Device}
 use Rattle.rules.specs.declared.Port.{Port}
 use Rattle.rules.specs.declared.Counter.{Counter}
-use Rattle.rules.specs.Byte.{bit, byteOf}
+use Rattle.rules.specs.Byte.{bit}
 use Rattle.rules.specs.Record.{portAt, counterAt, withPhase}
 use Rattle.rules.specs.Registers.{portEnabled}
 use Rattle.rules.specs.PortData.{pinBit, pathBit, pinsOf, pathOf, standing, valueAt, pinsAt, pathAt}

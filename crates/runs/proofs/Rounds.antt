@@ -4,17 +4,17 @@ use Prim.Native.Nat.{ℕ, zero, suc, _+_, _-_, _*_, _≤_, _<_}
 use mathlib.Core.Path.{_≡_, refl, sym, ap, _∙_}
 use mathlib.Core.Bool.{Bool, true, false}
 use mathlib.Core.List.{List, [], _∷_}
-use native.Mathlib.Nat.{zero-mul, suc-mul, add-zero, zero-add, add-assoc, add-comm}
+use native.Mathlib.Nat.{zero-mul, suc-mul, add-zero}
 use native.Mathlib.Omega.{arith}
 use lib.Dec.{lit<}
 use lib.ListN.{getD, length}
 use Rattle.rules.specs.declared.Device.{Device}
 use Rattle.rules.specs.declared.Ran.{Ran}
 use Rattle.rules.specs.Registers.{reset}
-use Rattle.rules.specs.Step.{counted, clockOf, iterate}
+use Rattle.rules.specs.Step.{clockOf, iterate}
 use Rattle.runs.specs.Ticks.{sums, onTop}
 use Rattle.runs.proofs.Iterate.{iterate-add, iterate-commutes}
-use Rattle.runs.proofs.Same.{three}
+use Rattle.runs.proofs.Lists.{three}
 use Rattle.runs.proofs.Reports.{clock-held, clock-first, clock-timer, clock-on-top, clocks-add, no-less, one-more}
 
 -- ---- over any function f, and any g that does not matter to it: a round that does g
@@ -106,8 +106,8 @@ module _ (was now : Ran) (p : ℕ) (few : length (was .terminals) ≡ 3) (as-few
   unfolding sums
   anchored =
       let counts : now .terminals ≡ sums gains (was .terminals) =
-        three 0 (now .terminals) as-few
-        ∙ triple (omega (arith, gained 0 (lit< tt))) (omega (arith, gained 1 (lit< tt))) (omega (arith, gained 2 (lit< tt))) in
+      three 0 (now .terminals) as-few
+      ∙ triple (omega (arith, gained 0 (lit< tt))) (omega (arith, gained 1 (lit< tt))) (omega (arith, gained 2 (lit< tt))) in
       λ k. record { device = back k; terminals = counts k }
 
   a-round : iterate p clockOf now ≡ onTop gains now
@@ -120,9 +120,9 @@ module _ (was now : Ran) (p : ℕ) (few : length (was .terminals) ≡ 3) (as-few
       (record {
         device = now .device;
         terminals = afterRounds q (getD (was .terminals) 0 0) (getD (now .terminals) 0 0)
-          ∷ afterRounds q (getD (was .terminals) 1 0) (getD (now .terminals) 1 0)
-          ∷ afterRounds q (getD (was .terminals) 2 0) (getD (now .terminals) 2 0)
-          ∷ [];
+            ∷ afterRounds q (getD (was .terminals) 1 0) (getD (now .terminals) 1 0)
+            ∷ afterRounds q (getD (was .terminals) 2 0) (getD (now .terminals) 2 0)
+            ∷ [];
       })
   whole q r =
       iterate-add (q * p) r clockOf now

@@ -1,31 +1,29 @@
 -- Where a timer clock only takes one from some counts, and those stay above 1, the next does so too.
 -- Assumes nothing.
 use Prim.Native.Nat.{ℕ, zero, suc, _+_, _-_, _*_, _≤_, _<_}
-use mathlib.Core.Path.{_≡_, refl, sym, ap, ap₂, subst, _∙_}
-use mathlib.Core.Bool.{Bool, true, false, not, _&&_, _||_, cond, and-false, not-and-self, false≢true, true≢false}
+use mathlib.Core.Path.{_≡_, refl, sym, ap, ap₂, _∙_}
+use mathlib.Core.Bool.{Bool, true, false, cond, and-false, not-and-self}
 use mathlib.Core.List.{List, [], _∷_}
 use native.Mathlib.Nat.{add-zero, sub-zero}
 use native.Mathlib.Omega.{arith}
-use lib.Dec.{eqb}
 use lib.ListN.{getD, length}
 use borrow.Author.Tests.{ne-eqb}
 use Rattle.rules.specs.declared.Device.{Device}
 use Rattle.rules.specs.declared.Counter.{Counter}
 use Rattle.rules.specs.declared.Counted.{Counted}
 use Rattle.rules.specs.declared.Link.{Link}
-use Rattle.rules.specs.declared.Turned.{Turned}
 use Rattle.rules.specs.declared.Stepped.{Stepped}
 use Rattle.rules.specs.declared.Ran.{Ran}
 use Rattle.rules.specs.Byte.{bit, num}
-use Rattle.rules.specs.Record.{counterAt, idle, withPhase}
-use Rattle.rules.specs.Registers.{counterEnabled, lc, reset}
+use Rattle.rules.specs.Record.{withConfig, counterAt, idle, withPhase}
+use Rattle.rules.specs.Registers.{counterOn, counterEnabled, lc, reset}
 use Rattle.rules.specs.PortData.{seenAt}
 use Rattle.rules.specs.Counters.{at, lessOne, countOf, outputOf, unlinked, linkOf, reachOf, counts, turnOf}
 use Rattle.rules.specs.Step.{linesAt, eventAt, turned, counterTurn, settled, stepOf, counted, clockOf, iterate}
 use Rattle.runs.specs.Stretch.{lowerOf, withCounters, loweredOf, movedOf}
 use Rattle.runs.proofs.Iterate.{iterate-add}
-use Rattle.runs.proofs.Same.{three}
-use Rattle.runs.proofs.Frame.{frame-step, frame-turn, turnAt, turn-counters}
+use Rattle.runs.proofs.Lists.{three}
+use Rattle.runs.proofs.Frame.{frame-step, frame-turn, turn-counters}
 use Rattle.runs.proofs.Lines.{lines-phase}
 use Rattle.runs.proofs.Reports.{clock-first, clock-timer}
 use Rattle.runs.proofs.Timer.{low, turn1, link2, turn2, given, clock-counters, clock-terminals, second-there, third-there}
@@ -90,7 +88,7 @@ module _ (on : Bool) (k : Link) (w : ℕ) (c : Counter) (t : k .trigger ≡ fals
       ∙ count-lower c j small r
   again-by false j e h r p =
       let q : quietly c ≡ quietly (lowerOf 1 true c) =
-        sym (not-loaded on k w c t ∙ ap (λ (b : Bool). cond b (countOf c) (quietly c)) e) ∙ p in
+      sym (not-loaded on k w c t ∙ ap (λ (b : Bool). cond b (countOf c) (quietly c)) e) ∙ p in
       let n : c .count ≡ c .count - 1 = ap (λ (x : Counted). x .counter .count) q in
       absurd (omega arith)
 
@@ -178,7 +176,7 @@ module _ (d : Device) (x y z : Counter) where
       -- what a later turn finds
       found : (i : ℕ) (k : Link) (c : Counter) (f : Device) → f .config ≡ d .config → counterAt f i ≡ c → given whole i k f ≡ plain whole i k c
       found i k c f p q =
-          ap₂ (λ (n : ℕ) (b : Counter). turnOf (Rattle.rules.specs.Registers.counterOn n i) (reachOf b k true (linesAt whole i) (linesAt (low whole) i)) b) p q
+          ap₂ (λ (n : ℕ) (b : Counter). turnOf (counterOn n i) (reachOf b k true (linesAt whole i) (linesAt (low whole) i)) b) p q
           ∙ still i k c
 
       linked : link2 whole ≡ link
@@ -214,6 +212,7 @@ three-alike x y z x′ y′ z′ p q r = record { mode = mode; output = output }
     mode (suc zero) = q .mode
     mode (suc (suc zero)) = r .mode
     mode (suc (suc (suc i))) = refl
+
     output : (i : ℕ) → outputOf (getD (x′ ∷ y′ ∷ z′ ∷ []) i idle) ≡ outputOf (getD (x ∷ y ∷ z ∷ []) i idle)
     output zero = p .output
     output (suc zero) = q .output
@@ -289,12 +288,12 @@ module _ (d : Device) (x y z : Counter) (a b c : Bool) (sx : x .count < 65536) (
       turns-again =
           record {
             first = same-lines 0 unlinked (lowerOf j a x)
-              ∙ again (counterEnabled d 0) unlinked (linesAt base 0) x refl sx a j (one .first) (r .first) (turns .first);
+                ∙ again (counterEnabled d 0) unlinked (linesAt base 0) x refl sx a j (one .first) (r .first) (turns .first);
             second = ap (λ (k : Link). plain (after j) 1 k (lowerOf j b y)) is-steady ∙ same-lines 1 steady (lowerOf j b y)
-              ∙ again (counterEnabled d 1) steady (linesAt base 1) y (no-trigger (lc d) (outputOf x)) sy b j (one .second) (r .second)
-              (ap (λ (k : Link). plain base 1 k y) (sym was-steady) ∙ turns .second);
+                ∙ again (counterEnabled d 1) steady (linesAt base 1) y (no-trigger (lc d) (outputOf x)) sy b j (one .second) (r .second)
+                (ap (λ (k : Link). plain base 1 k y) (sym was-steady) ∙ turns .second);
             third = same-lines 2 unlinked (lowerOf j c z)
-              ∙ again (counterEnabled d 2) unlinked (linesAt base 2) z refl sz c j (one .third) (r .third) (turns .third);
+                ∙ again (counterEnabled d 2) unlinked (linesAt base 2) z refl sz c j (one .third) (r .third) (turns .third);
           }
 
       settles-again : settled (seenAt (after j) 0) (seenAt (after j) 1) (low (after (suc j))) ≡ low (after (suc j))
@@ -303,7 +302,7 @@ module _ (d : Device) (x y z : Counter) (a b c : Bool) (sx : x .count < 65536) (
           let l = lowerOf j a x ∷ lowerOf j b y ∷ lowerOf j c z ∷ [] in
           ap₂ (λ (u v : ℕ). settled u v (low (after (suc j)))) (seen-alike base l as-base 0) (seen-alike base l as-base 1)
           ∙ settled-alike (seenAt base 0) (seenAt base 1) (low (after 1)) m as-one
-          ∙ ap (λ (f : Device). Rattle.rules.specs.Record.withConfig f (f .config) m) (settles d x y z (lowerOf 1 a x) (lowerOf 1 b y) (lowerOf 1 c z) e)
+          ∙ ap (λ (f : Device). withConfig f (f .config) m) (settles d x y z (lowerOf 1 a x) (lowerOf 1 b y) (lowerOf 1 c z) e)
 
       next : stepOf true (after j) (low (after j)) ≡ record { device = low (after (suc j)); terminals = false ∷ false ∷ false ∷ [] }
       next =
@@ -360,7 +359,7 @@ module _ (d : Device) (p q r : ℕ) (on : reset d ≡ false) (high : d .phase �
       let t2 = no-terminal r _ (ap (λ (x : Ran). getD (x .terminals) 2 0) g) in
       let f = frame-step true d (low d) in
       let v : stepped .device ≡ low e =
-        sym (phase-put (stepped .device) false (f .phase)) ∙ ap (λ (x : Ran). withPhase (x .device) false) g in
+      sym (phase-put (stepped .device) false (f .phase)) ∙ ap (λ (x : Ran). withPhase (x .device) false) g in
       let ts : stepped .terminals ≡ false ∷ false ∷ false ∷ [] = three-terminals d ∙ triple t0 t1 t2 in
       λ i. record { device = v i; terminals = ts i }
 
@@ -394,7 +393,7 @@ module _ (s : Ran) (a b c : Bool) (full : length (s .device .counters) ≡ 3) (f
   split =
       λ i.
       record {
-        device = Rattle.rules.specs.Record.withConfig (s .device) (s .device .config) (three idle (s .device .counters) full i);
+        device = withConfig (s .device) (s .device .config) (three idle (s .device .counters) full i);
         terminals = three 0 (s .terminals) few i;
       }
 
@@ -409,7 +408,7 @@ module _ (s : Ran) (a b c : Bool) (full : length (s .device .counters) ≡ 3) (f
       let z = counterAt (s .device) 2 in
       let counts = three 0 (s .terminals) few in
       let seen3 = ap (iterate 2 clockOf) (sym split) ∙ seen
-        ∙ ap (λ (l : List ℕ). record { device = withCounters (s .device) (lowerOf 1 a x) (lowerOf 1 b y) (lowerOf 1 c z); terminals = l }) counts in
+      ∙ ap (λ (l : List ℕ). record { device = withCounters (s .device) (lowerOf 1 a x) (lowerOf 1 b y) (lowerOf 1 c z); terminals = l }) counts in
       ap (iterate (2 * k) clockOf) split
       ∙ stretch-by (s .device) x y z a b c sx sy sz (getD (s .terminals) 0 0) (getD (s .terminals) 1 0) (getD (s .terminals) 2 0) on high
       (record { first = one .0; second = one .1; third = one .2 }) seen3 k (record { first = h .0; second = h .1; third = h .2 })

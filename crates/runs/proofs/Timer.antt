@@ -1,8 +1,8 @@
 -- A timer clock at a free-running counter is one count of it, and leaves it free-running.
 -- Assumes nothing.
-use Prim.Native.Nat.{ℕ, zero, suc, _+_, _*_, _<_, _≤_}
-use mathlib.Core.Path.{_≡_, refl, sym, ap, _∙_}
-use mathlib.Core.Bool.{Bool, true, false, not, _&&_, _||_, cond, and-false, not-and-self, false≢true}
+use Prim.Native.Nat.{ℕ, zero, suc, _<_}
+use mathlib.Core.Path.{_≡_, refl, ap, _∙_}
+use mathlib.Core.Bool.{Bool, true, false, not, _||_, and-false, not-and-self, false≢true}
 use mathlib.Core.List.{List, [], _∷_}
 use native.Mathlib.Omega.{arith}
 use lib.Dec.{eqb}
@@ -13,16 +13,15 @@ use Rattle.rules.specs.declared.Counter.{Counter}
 use Rattle.rules.specs.declared.Counted.{Counted}
 use Rattle.rules.specs.declared.Link.{Link}
 use Rattle.rules.specs.declared.Turned.{Turned}
-use Rattle.rules.specs.declared.Stepped.{Stepped}
 use Rattle.rules.specs.Byte.{bit}
 use Rattle.rules.specs.Record.{counterAt, idle, withPhase}
-use Rattle.rules.specs.Registers.{counterEnabled, lc}
+use Rattle.rules.specs.Registers.{counterOn, counterEnabled, lc}
 use Rattle.rules.specs.PortData.{seenAt}
-use Rattle.rules.specs.Counters.{continuous, square, countInput, triggerInput, gateInput, at, lessOne, terminalOf, countOf, outputOf, unlinked, linkOf, reachOf, counts, turnOf}
-use Rattle.rules.specs.Step.{linesAt, turned, counterTurn, settled, stepOf}
+use Rattle.rules.specs.Counters.{continuous, square, countInput, gateInput, at, lessOne, terminalOf, countOf, outputOf, unlinked, linkOf, reachOf, counts, turnOf}
+use Rattle.rules.specs.Step.{linesAt, turned, counterTurn, stepOf}
 use Rattle.runs.specs.Free.{Free}
-use Rattle.runs.proofs.Frame.{Frame, frame-trans, frame-step, frame-turn, turnAt, turn-counters, settled-counters}
-use Rattle.runs.proofs.Lines.{lines-phase, gate-kept}
+use Rattle.runs.proofs.Frame.{frame-turn, turnAt, turn-counters, settled-counters}
+use Rattle.runs.proofs.Lines.{lines-phase}
 
 -- ---- one count of a continuous counter that is not square
 module _ (c : Counter) (con : continuous c ≡ true) (sq : square c ≡ false) where
@@ -123,7 +122,7 @@ module _ (d : Device) (i : ℕ) (free : Free d i) where
       ap (λ (c : Counter). turnOf (counterEnabled e i) (reachOf c k true (linesAt d i) (linesAt (low d) i)) c) q
       ∙ ap (λ (w : ℕ). turnOf (counterEnabled e i) (reachOf (counterAt d i) k true (linesAt d i) w) (counterAt d i)) (lines-phase d false i)
       ∙ ap (λ (v : Bool). turnOf v (reachOf (counterAt d i) k true (linesAt d i) (linesAt d i)) (counterAt d i))
-      (ap (λ (b : ℕ). Rattle.rules.specs.Registers.counterOn b i) p ∙ free .enabled)
+      (ap (λ (b : ℕ). counterOn b i) p ∙ free .enabled)
       ∙ turn-count (counterAt d i) k (linesAt d i) u (free .cip) (free .gcb) (free .gate) (free .clocked)
 
 -- a link under LC 00
@@ -131,31 +130,46 @@ link-clear : (d : Device) → lc d ≡ 0 → clear (link2 d)
 unfolding linkOf
 link-clear d e = (simp e, simp e, simp e)
 
+-- the three turns, and what they leave at each place
+abbrev none : Counted
+none = record { counter = idle; terminal = false }
+
+abbrev turnsOf : Device → List Counted
+turnsOf d = given d 0 unlinked (low d) ∷ given d 1 (link2 d) (turn1 d .device) ∷ given d 2 unlinked (turn2 d .device) ∷ []
+
+counter-at : (d : Device) (i : ℕ) → i < 3 → i < length (d .counters) → counterAt (stepOf true d (low d) .device) i ≡ getD (turnsOf d) i none .counter
+counter-at d zero h l = ap (λ (m : List Counter). getD m 0 idle) (clock-counters d) ∙ in-first (d .counters) _ _ _ l
+counter-at d (suc zero) h l = ap (λ (m : List Counter). getD m 1 idle) (clock-counters d) ∙ in-second (d .counters) _ _ _ l
+counter-at d (suc (suc zero)) h l = ap (λ (m : List Counter). getD m 2 idle) (clock-counters d) ∙ in-third (d .counters) _ _ _ l
+counter-at d (suc (suc (suc i))) h l = absurd (omega arith)
+
+terminal-at : (d : Device) (i : ℕ) → i < 3 → getD (stepOf true d (low d) .terminals) i false ≡ getD (turnsOf d) i none .terminal
+terminal-at d zero h = ap (λ (l : List Bool). getD l 0 false) (clock-terminals d)
+terminal-at d (suc zero) h = ap (λ (l : List Bool). getD l 1 false) (clock-terminals d)
+terminal-at d (suc (suc zero)) h = ap (λ (l : List Bool). getD l 2 false) (clock-terminals d)
+terminal-at d (suc (suc (suc i))) h = absurd (omega arith)
+
+-- a free-running counter's turn is a count
+free-turn : (d : Device) (i : ℕ) → i < 3 → Free d i → getD (turnsOf d) i none ≡ countOf (counterAt d i)
+free-turn d zero h free = turn-free d 0 free unlinked (low d) (refl, refl, refl) refl refl
+free-turn d (suc zero) h free =
+    let f = frame-turn unlinked true (linesAt d 0) (linesAt (low d) 0) 0 (low d) in
+    turn-free d 1 free (link2 d) (turn1 d .device) (link-clear d (free .unlinked refl)) (f .config) (second-there d)
+free-turn d (suc (suc zero)) h free =
+    let f = frame-turn unlinked true (linesAt d 0) (linesAt (low d) 0) 0 (low d) in
+    let g = frame-turn (link2 d) true (linesAt d 1) (linesAt (low d) 1) 1 (turn1 d .device) in
+    turn-free d 2 free unlinked (turn2 d .device) (refl, refl, refl) (g .config ∙ f .config) (third-there d)
+free-turn d (suc (suc (suc i))) h free = absurd (omega arith)
+
 -- the counter is counted, and its terminal is the step's
 pub record Clocked (d : Device) (i : ℕ) : Type 0 where
   pub counter : counterAt (stepOf true d (low d) .device) i ≡ countOf (counterAt d i) .counter
   pub terminal : getD (stepOf true d (low d) .terminals) i false ≡ countOf (counterAt d i) .terminal
 
 pub clocked : (d : Device) (i : ℕ) → i < 3 → Free d i → Clocked d i
-clocked d zero h free =
-    let r = turn-free d 0 free unlinked (low d) (refl, refl, refl) refl refl in
+clocked d i h free =
+    let r = free-turn d i h free in
     record {
-      counter = ap (λ (l : List Counter). getD l 0 idle) (clock-counters d) ∙ in-first (d .counters) _ _ _ (there (d .counters) 0 (free .cip)) ∙ ap (λ (x : Counted). x .counter) r;
-      terminal = ap (λ (l : List Bool). getD l 0 false) (clock-terminals d) ∙ ap (λ (x : Counted). x .terminal) r;
+      counter = counter-at d i h (there (d .counters) i (free .cip)) ∙ ap (λ (x : Counted). x .counter) r;
+      terminal = terminal-at d i h ∙ ap (λ (x : Counted). x .terminal) r;
     }
-clocked d (suc zero) h free =
-    let f = frame-turn unlinked true (linesAt d 0) (linesAt (low d) 0) 0 (low d) in
-    let r = turn-free d 1 free (link2 d) (turn1 d .device) (link-clear d (free .unlinked refl)) (f .config) (second-there d) in
-    record {
-      counter = ap (λ (l : List Counter). getD l 1 idle) (clock-counters d) ∙ in-second (d .counters) _ _ _ (there (d .counters) 1 (free .cip)) ∙ ap (λ (x : Counted). x .counter) r;
-      terminal = ap (λ (l : List Bool). getD l 1 false) (clock-terminals d) ∙ ap (λ (x : Counted). x .terminal) r;
-    }
-clocked d (suc (suc zero)) h free =
-    let f = frame-turn unlinked true (linesAt d 0) (linesAt (low d) 0) 0 (low d) in
-    let g = frame-turn (link2 d) true (linesAt d 1) (linesAt (low d) 1) 1 (turn1 d .device) in
-    let r = turn-free d 2 free unlinked (turn2 d .device) (refl, refl, refl) (g .config ∙ f .config) (third-there d) in
-    record {
-      counter = ap (λ (l : List Counter). getD l 2 idle) (clock-counters d) ∙ in-third (d .counters) _ _ _ (there (d .counters) 2 (free .cip)) ∙ ap (λ (x : Counted). x .counter) r;
-      terminal = ap (λ (l : List Bool). getD l 2 false) (clock-terminals d) ∙ ap (λ (x : Counted). x .terminal) r;
-    }
-clocked d (suc (suc (suc i))) h free = absurd (omega arith)

@@ -2,7 +2,7 @@
 -- Assumes nothing.
 use Prim.Native.Nat.{ℕ, _+_, _-_, _/_, _%_}
 use mathlib.Core.Path.{_≡_}
-use mathlib.Core.Bool.{Bool, true, false, not, _||_, cond}
+use mathlib.Core.Bool.{true, false, not, _||_, cond}
 use lib.Dec.{eqb, ltb}
 use Rattle.rules.specs.declared.Device.{Device}
 use Rattle.rules.specs.Byte.{bit, num}

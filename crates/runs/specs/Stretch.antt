@@ -1,8 +1,8 @@
 -- A stretch of clocks that only takes one from some counts at each timer clock.
 -- Assumes nothing.
 use Prim.Native.Nat.{ℕ, _-_}
-use mathlib.Core.Bool.{Bool, true, false, cond}
-use mathlib.Core.List.{List, [], _∷_}
+use mathlib.Core.Bool.{Bool, cond}
+use mathlib.Core.List.{[], _∷_}
 use Rattle.rules.specs.declared.Device.{Device}
 use Rattle.rules.specs.declared.Counter.{Counter}
 use Rattle.rules.specs.declared.Ran.{Ran}

@@ -36,7 +36,7 @@ fn sound_sources(d: Device) -> bool
 fn sound_counter(enabled: bool, c: Counter) -> bool
     ensures { λ r. ⌜ r ≡ soundCounter enabled c ⌝ }
 {
-    (!c.cip | enabled) & (!c.half | c.cip) & (!!c.rcc | (c.frozen == 0))
+    (!c.cip | enabled) & (!c.half | c.cip) & (c.rcc | (c.frozen == 0))
 }
 
 fn sound_counter_at(d: Device, i: usize) -> bool

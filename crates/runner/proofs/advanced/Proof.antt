@@ -6,7 +6,7 @@ use Rattle.runner.proofs.advanced.Statement.{statement}
 use Rattle.runner.proofs.advanced.Tie as tie
 
 leapt-requires : tie.Need-leapt-requires
-leapt-requires c κs = 
+leapt-requires c κs =
     let h = c .before .before .pre in
     (h .1, h .0 .room 0, h .0 .room 1, h .0 .room 2)
 
@@ -17,7 +17,7 @@ sub-t7 : tie.Need-sub-t7
 sub-t7 c = search needs
 
 returns : tie.Need-returns
-returns c = 
+returns c =
     let s = c .before .before .before .before .before .before .before .before in
     let l = c .before .before .before .before .before .leapt .ensures in
     (later (s .args .c) _ _ (s .pre .0) (l .within) (l .ran) refl refl refl, omega (arith, l .some, l .within, s .pre .1), omega (arith, l .some))

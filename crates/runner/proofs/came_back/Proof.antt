@@ -1,14 +1,17 @@
-use mathlib.Core.Path.{_≡_, sym, _∙_}
+use mathlib.Core.Path.{sym, _∙_}
 use borrow.Author.Needs.{needs}
-use Rattle.runs.proofs.Same.{Shaped, same-is, of-map}
+use Rattle.theorems.proofs.Shapes.{Shaped}
+use Rattle.theorems.proofs.Same.{same-is}
+use Rattle.runs.proofs.Lists.{of-map}
 use Rattle.runner.proofs.came_back.Statement.{statement}
 use Rattle.runner.proofs.came_back.Tie as tie
 
 -- both records have the parts of a Z8036
 shapes : (c : tie.Start) → Shaped (c .args .now) × Shaped (c .args .then)
-shapes c =
-    (record { vectors = search needs; ports = search of-map; patterns = search of-map; counters = search of-map; sources = search of-map },
-    record { vectors = search needs; ports = search of-map; patterns = search of-map; counters = search of-map; sources = search of-map })
+shapes c = (
+  record { vectors = search needs; ports = search of-map; patterns = search of-map; counters = search of-map; sources = search of-map },
+  record { vectors = search needs; ports = search of-map; patterns = search of-map; counters = search of-map; sources = search of-map },
+)
 
 same-requires : tie.Need-same-requires
 same-requires c κs = search needs

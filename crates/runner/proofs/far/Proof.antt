@@ -1,8 +1,8 @@
 use mathlib.Core.Path.{_≡_}
 use native.Mathlib.Omega.{arith}
 use lib.ListN.{length}
-use Rattle.runs.proofs.Same.{of-map}
-use Rattle.runner.proofs.Leaping.{fewer, roomed, reaches, far-leaps}
+use Rattle.runs.proofs.Lists.{of-map}
+use Rattle.runner.proofs.Leaping.{fewer, roomed, far-leaps}
 use borrow.Author.Needs.{needs}
 use Rattle.runner.proofs.far.Statement.{statement}
 use Rattle.runner.proofs.far.Tie as tie
@@ -30,7 +30,7 @@ room-requires-3 : tie.Need-room-requires-3
 room-requires-3 c κs = search needs
 
 lowered-requires : tie.Need-lowered-requires
-lowered-requires c κs = 
+lowered-requires c κs =
     let s = c .before .before .before .before .before .before .before .before in
     fewer _ _ _ _ _ _ (omega arith)
     (roomed (s .args .s) (s .args .a) (s .args .b) (s .args .c) (s .args .left) _ _ _ (c .before .before .room .ensures) (c .before .room2 .ensures) (c .room3 .ensures))
@@ -39,7 +39,7 @@ mul-t19 : tie.Need-mul-t19
 mul-t19 c = search needs
 
 returns : tie.Need-returns
-returns c = 
+returns c =
     let s = c .before .before .before .before .before .before .before .before .before in
     far-leaps (s .args .s) (s .args .a) (s .args .b) (s .args .c) (s .args .left) _ _ _ (c .before .before .before .room .ensures) (c .before .before .room2 .ensures) (c .before .room3 .ensures)
     (s .pre .0) (s .pre .1) (s .pre .2) (s .pre .3) (sizes s .0) (sizes s .1) _ (c .lowered .ensures)

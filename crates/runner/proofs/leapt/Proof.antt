@@ -1,6 +1,5 @@
-use mathlib.Core.Path.{_≡_, ap, _∙_}
+use mathlib.Core.Path.{ap, _∙_}
 use native.Mathlib.Omega.{arith}
-use Rattle.rules.specs.declared.Ran.{Ran}
 use Rattle.rules.specs.Step.{clockOf, iterate}
 use lib.ListN.{getD}
 use Prim.Native.Nat.{ℕ, _+_, _≤_}
@@ -14,11 +13,11 @@ clock-requires : tie.Need-clock-requires
 clock-requires c κs = search needs
 
 clock-requires-2 : tie.Need-clock-requires-2
-clock-requires-2 c κs = 
+clock-requires-2 c κs =
     let s = c .before .before .before .before .before in
     let most = timer (s .args .s) (s .args .left) (c .if1 .taken) .1 in
     let at : (i : ℕ) → getD (c .before .before .before .before .clock .result .terminals) i 0 ≤ getD (s .args .s .terminals) i 0 + 1 =
-      λ i. rw (c .before .before .before .before .clock .ensures) (once i (s .args .s)) in
+    λ i. rw (c .before .before .before .before .clock .ensures) (once i (s .args .s)) in
     record {
       one = omega (arith, at 0, s .pre .1, most);
       two = omega (arith, at 1, s .pre .2, most);
@@ -27,7 +26,7 @@ clock-requires-2 c κs =
 
 stretched-requires : tie.Need-stretched-requires
 unfolding iterate
-stretched-requires c κs = 
+stretched-requires c κs =
     let s = c .before .before .before .before .before .before in
     let t = timer (s .args .s) (s .args .left) (c .before .if1 .taken) in
     (t .0, t .1, c .clock2 .ensures ∙ ap clockOf (c .before .before .before .before .before .clock .ensures))

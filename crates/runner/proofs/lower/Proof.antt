@@ -1,4 +1,3 @@
-use native.Mathlib.Omega.{arith}
 use Rattle.runs.specs.Stretch.{lowerOf}
 use borrow.Author.Needs.{needs}
 use Rattle.runner.proofs.lower.Statement.{statement}

@@ -5,7 +5,7 @@ use Rattle.runner.proofs.moves.Statement.{statement}
 use Rattle.runner.proofs.moves.Tie as tie
 
 returns : tie.Need-returns
-returns c = 
+returns c =
     let s = c .before .before .before .args in
     above (not (eqb (s .then .count) (s .now .count))) (s .then .count)
 

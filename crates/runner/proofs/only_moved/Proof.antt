@@ -1,6 +1,5 @@
-use mathlib.Core.Path.{_≡_, refl, sym, ap, _∙_}
+use mathlib.Core.Path.{_≡_, _∙_}
 use mathlib.Core.Bool.{false≢true}
-use lib.Dec.{lit<}
 use native.Mathlib.Omega.{arith}
 use lib.ListN.{length}
 use Rattle.runner.proofs.Leaping.{same-counts, fewer}
@@ -31,7 +30,7 @@ array-read-quiet-6 : tie.Need-array-read-quiet-6
 array-read-quiet-6 c = search needs
 
 lowered-requires : tie.Need-lowered-requires
-lowered-requires c κs = 
+lowered-requires c κs =
     let s = c .before .before .before in
     fewer 3 1 (s .args .a) (s .args .b) (s .args .c) (s .args .then .device) (omega arith) (s .pre)
 
@@ -39,7 +38,7 @@ came-back-requires : tie.Need-came-back-requires
 came-back-requires c κs = search needs
 
 returns : tie.Need-returns
-returns c = 
+returns c =
     let s = c .before .before .before .before .before in
     let counts = same-counts (s .args .now .terminals) (s .args .then .terminals) (sizes s .0) (sizes s .1) (c .before .before .if1 .taken) in
     λ t.

@@ -15,7 +15,7 @@ least-requires : tie.Need-least-requires
 least-requires c κs = search needs
 
 returns : tie.Need-returns
-returns c = 
+returns c =
     let h = c .before .before .before .pre (c .before .before .if1 .taken) in
     let e = c .least .ensures in
     (e .0, λ t. omega (arith, e .1, h), λ p. e .2 p (omega (arith, h)), omega arith)

@@ -24,9 +24,10 @@ loop-less : tie.Need-loop-less Inv-loop μ-loop
 loop-less c = omega (arith, c .before .advanced .ensures .1, c .turned .ensures .left)
 
 loop-again : tie.Need-loop-again Inv-loop μ-loop
-loop-again c =
-    (c .turned .ensures .holds,
-    c .turned .ensures .end ∙ c .before .advanced .ensures .0 .end ∙ c .before .before .before .before .loop .inv .1)
+loop-again c = (
+  c .turned .ensures .holds,
+  c .turned .ensures .end ∙ c .before .advanced .ensures .0 .end ∙ c .before .before .before .before .loop .inv .1,
+)
 
 returns : tie.Need-returns Inv-loop μ-loop
 returns c = ended _ _ _ (c .before .before .before .loop .inv .1) (omega (arith, c .before .if1 .left))

@@ -1,9 +1,6 @@
-use mathlib.Core.Path.{_≡_, refl, ap, _∙_}
-use mathlib.Core.List.{List, [], _∷_}
-use native.Mathlib.Omega.{arith}
+use mathlib.Core.Path.{_≡_, refl}
 use lib.Dec.{lit<}
 use lib.ListN.{length}
-use Prim.Native.Nat.{ℕ}
 use Rattle.runner.proofs.Moments.{computed, around}
 use borrow.Author.Needs.{needs}
 use Rattle.runner.proofs.skipped.Statement.{statement}
@@ -23,7 +20,7 @@ element-copy-out-repeated-2 : tie.Need-element-copy-out-repeated-2
 element-copy-out-repeated-2 c = search needs
 
 repeated-requires : tie.Need-repeated-requires
-repeated-requires c κs = 
+repeated-requires c κs =
     let s = c .before .before .before .before .before .before in
     computed (s .args .c) (s .pre .0) (sizes s .0) (sizes s .1) (s .pre .2) 0 (lit< tt)
 
@@ -34,7 +31,7 @@ element-copy-out-repeated-4 : tie.Need-element-copy-out-repeated-4
 element-copy-out-repeated-4 c = search needs
 
 repeated-requires-2 : tie.Need-repeated-requires-2
-repeated-requires-2 c κs = 
+repeated-requires-2 c κs =
     let s = c .before .before .before .before .before .before .before .before .before in
     computed (s .args .c) (s .pre .0) (sizes s .0) (sizes s .1) (s .pre .2) 1 (lit< tt)
 
@@ -45,7 +42,7 @@ element-copy-out-repeated-6 : tie.Need-element-copy-out-repeated-6
 element-copy-out-repeated-6 c = search needs
 
 repeated-requires-3 : tie.Need-repeated-requires-3
-repeated-requires-3 c κs = 
+repeated-requires-3 c κs =
     let s = c .before .before .before .before .before .before .before .before .before .before .before .before in
     computed (s .args .c) (s .pre .0) (sizes s .0) (sizes s .1) (s .pre .2) 2 (lit< tt)
 
@@ -53,7 +50,7 @@ rem-t7 : tie.Need-rem-t7
 rem-t7 c = search needs
 
 returns : tie.Need-returns
-returns c = 
+returns c =
     let s = c .before .before .before .before .before .before .before .before .before .before .before .before .before .before in
     around (s .args .c) (s .pre .0) (sizes s .0) (sizes s .1) (s .pre .2) _
     (simp (c .before .repeated3 .ensures, c .before .before .before .before .repeated2 .ensures, c .before .before .before .before .before .before .before .repeated .ensures)) refl refl refl

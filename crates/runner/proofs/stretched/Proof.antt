@@ -1,4 +1,4 @@
-use mathlib.Core.Path.{_≡_, sym, _∙_}
+use mathlib.Core.Path.{sym, _∙_}
 use borrow.Author.Needs.{needs}
 use Rattle.runner.proofs.stretched.Statement.{statement}
 use Rattle.runner.proofs.stretched.Tie as tie
@@ -34,7 +34,7 @@ only-moved-requires : tie.Need-only-moved-requires
 only-moved-requires c κs = search needs
 
 far-requires : tie.Need-far-requires
-far-requires c κs = 
+far-requires c κs =
     let s = c .before .before .before .before .before .before .before .before .before .before .before .before .before in
     let e = c .before .only-moved .ensures (c .if1 .taken) in
     (s .pre .0, s .pre .1, record { first = c .before .before .before .before .before .before .before .before .moves .ensures; second = c .before .before .before .before .before .moves2 .ensures; third = c .before .before .moves3 .ensures }, sym (s .pre .2) ∙ e)

@@ -8,7 +8,7 @@ came-back-requires : tie.Need-came-back-requires
 came-back-requires c κs = search needs
 
 skipped-requires : tie.Need-skipped-requires
-skipped-requires c κs = 
+skipped-requires c κs =
     let s = c .before .before .before .before in
     (s .pre .0, s .pre .1, c .before .came-back .ensures (c .if1 .taken))
 

@@ -1,0 +1,4 @@
+pub mod Agree
+pub mod Whole
+pub mod Answers
+pub mod RoundTrip

@@ -1,0 +1,59 @@
+-- Save and restore undo each other: no count, half, hidden error, catcher, phase or frozen count is lost on the way.
+-- `saveCode`, `savedOf` and `restoredOf` are what the calls `save` and `restore` promise to answer; `Fits` is what every record of the
+-- device's struct has, its arrays' lengths, and `Bytes` what every slice of bytes has.
+-- Assumes nothing.
+use Prim.Native.Nat.{ℕ}
+use mathlib.Core.Path.{_≡_, sym, ap, subst, _∙_}
+use mathlib.Core.Bool.{true}
+use mathlib.Core.List.{List}
+use borrow.Author.Tests.{eq-eqb, ne-eqb}
+use lib.ListN.{length, take, drop}
+use Rattle.rules.specs.declared.Device.{Device}
+use Rattle.rules.specs.Record.{imageLen, freshOf}
+use Rattle.rules.specs.Sound.{soundOf}
+use Rattle.bodies.specs.Taken.{Bytes}
+use Rattle.image.specs.Image.{contents, imageOf, deviceIn, agree, saveCode, savedOf, restoredOf, Fits}
+use Rattle.image.proofs.Agree.{itself}
+use Rattle.image.proofs.Whole.{image-length, image-contents, image-clear, read-back, written-back, fits}
+use Rattle.image.proofs.Answers.{accepted, fresh, saved-sound, saved-image, rest}
+
+-- a sound record's image restores to that very record
+pub restored-image : (d : Device) → Fits d → soundOf d ≡ true → restoredOf (imageOf d) ≡ record { code = 0; device = d }
+unfolding restoredOf
+restored-image d f s =
+    let long = eq-eqb (length (imageOf d)) imageLen (image-length d) in
+    let table = ap (λ (l : List ℕ). agree l contents) (image-contents d) ∙ itself contents in
+    simp (long, table, image-clear d, read-back d f, s)
+
+-- restoring what save wrote gives code 0 and that very record
+pub restored-saved : (d : Device) (e : List ℕ) → Fits d → saveCode d (length e) ≡ 0
+    → restoredOf (take imageLen (savedOf d e)) ≡ record { code = 0; device = d }
+restored-saved d e f h = ap restoredOf (saved-image d e h) ∙ restored-image d f (saved-sound d (length e) h)
+
+-- an accepted image is, byte for byte, what saving its record writes
+pub accepted-written : (s : List ℕ) → Bytes s → restoredOf s .code ≡ 0 → imageOf (restoredOf s .device) ≡ s
+accepted-written s b h =
+    let a = accepted s h in ap imageOf (a .is) ∙ written-back s (a .long) b (a .table) (a .clear)
+
+-- an accepted image's record is sound, and one that the struct holds
+pub accepted-sound : (s : List ℕ) → restoredOf s .code ≡ 0 → soundOf (restoredOf s .device) ≡ true
+accepted-sound s h = let a = accepted s h in ap soundOf (a .is) ∙ a .sound
+
+pub accepted-fits : (s : List ℕ) → restoredOf s .code ≡ 0 → Fits (restoredOf s .device)
+accepted-fits s h = subst Fits (sym (accepted s h .is)) (fits s)
+
+-- two records that save to one image are equal
+pub one-record : (d e : Device) → Fits d → Fits e → imageOf d ≡ imageOf e → d ≡ e
+one-record d e f g h = sym (read-back d f) ∙ ap deviceIn h ∙ read-back e g
+
+-- a refused restore gives the fresh device
+pub refused-fresh : (s : List ℕ) → (restoredOf s .code ≡ 0 → ⊥) → restoredOf s .device ≡ freshOf
+refused-fresh s h = fresh s h
+
+-- a refused save leaves every byte of its buffer, and any save every byte past the image
+pub refused-untouched : (d : Device) (e : List ℕ) → (saveCode d (length e) ≡ 0 → ⊥) → savedOf d e ≡ e
+unfolding savedOf
+refused-untouched d e h = simp (ne-eqb _ _ h)
+
+pub saved-rest : (d : Device) (e : List ℕ) → drop imageLen (savedOf d e) ≡ drop imageLen e
+saved-rest d e = rest d e

@@ -1,0 +1,107 @@
+use mathlib.Core.Path.{sym, ap, _∙_}
+use borrow.Author.Tests.{eq-eqb, ne-eqb, not-true, not-false}
+use Rattle.rules.specs.Sound.{soundOf}
+use Rattle.image.specs.Image.{restoredOf}
+use borrow.Author.Needs.{needs}
+use Rattle.image.proofs.restore.Statement.{statement}
+use Rattle.image.proofs.restore.Tie as tie
+
+refuse-requires : tie.Need-refuse-requires
+refuse-requires c κs = search needs
+
+returns : tie.Need-returns
+unfolding restoredOf
+returns c = simp (ne-eqb _ _ (c .before .if1 .taken), c .refuse .ensures)
+
+sub-same-bytes : tie.Need-sub-same-bytes
+sub-same-bytes c = search needs
+
+part-same-bytes-start : tie.Need-part-same-bytes-start
+part-same-bytes-start c = search needs
+
+part-same-bytes-end : tie.Need-part-same-bytes-end
+part-same-bytes-end c = search needs
+
+slice-aggregate-same-bytes : tie.Need-slice-aggregate-same-bytes
+slice-aggregate-same-bytes c = search needs
+
+same-bytes-requires : tie.Need-same-bytes-requires
+same-bytes-requires c κs = search needs
+
+refuse-requires-2 : tie.Need-refuse-requires-2
+refuse-requires-2 c κs = search needs
+
+returns-2 : tie.Need-returns-2
+unfolding restoredOf
+returns-2 c =
+    let b = c .before .before in
+    let same = sym (b .same-bytes .ensures) ∙ not-true _ (c .before .if2 .taken) in
+    simp (eq-eqb _ _ (b .before .before .before .if1 .left), same, c .refuse2 .ensures)
+
+is-clear-requires : tie.Need-is-clear-requires
+is-clear-requires c κs = search needs
+
+refuse-requires-3 : tie.Need-refuse-requires-3
+refuse-requires-3 c κs = search needs
+
+returns-3 : tie.Need-returns-3
+unfolding restoredOf
+returns-3 c =
+    let k = c .before .before in
+    let b = k .before .before in
+    let same = sym (b .same-bytes .ensures) ∙ not-false _ (k .before .if2 .left) in
+    let clear = sym (k .is-clear .ensures) ∙ not-true _ (c .before .if3 .taken) in
+    simp (eq-eqb _ _ (b .before .before .before .if1 .left), same, clear, c .refuse3 .ensures)
+
+read-requires : tie.Need-read-requires
+read-requires c κs = search needs
+
+sound-requires : tie.Need-sound-requires
+sound-requires c κs = search needs
+
+refuse-requires-4 : tie.Need-refuse-requires-4
+refuse-requires-4 c κs = search needs
+
+returns-4 : tie.Need-returns-4
+unfolding restoredOf
+returns-4 c =
+    let r = c .before .before .before in
+    let k = r .before .before in
+    let b = k .before .before in
+    let same = sym (b .same-bytes .ensures) ∙ not-false _ (k .before .if2 .left) in
+    let clear = sym (k .is-clear .ensures) ∙ not-false _ (r .before .if3 .left) in
+    let sound = ap soundOf (sym (r .read .ensures)) ∙ sym (c .before .before .sound .ensures) ∙ not-true _ (c .before .if4 .taken) in
+    simp (eq-eqb _ _ (b .before .before .before .if1 .left), same, clear, sound, c .refuse4 .ensures)
+
+returns-5 : tie.Need-returns-5
+unfolding restoredOf
+returns-5 c =
+    let r = c .before .before in
+    let k = r .before .before in
+    let b = k .before .before in
+    let same = sym (b .same-bytes .ensures) ∙ not-false _ (k .before .if2 .left) in
+    let clear = sym (k .is-clear .ensures) ∙ not-false _ (r .before .if3 .left) in
+    let sound = ap soundOf (sym (r .read .ensures)) ∙ sym (c .before .sound .ensures) ∙ not-false _ (c .if4 .left) in
+    simp (eq-eqb _ _ (b .before .before .before .if1 .left), same, clear, sound, r .read .ensures)
+
+pub restore-spec : {M : Type 1} → statement M
+restore-spec =
+    tie.close
+    (tie.spec
+    refuse-requires
+    returns
+    sub-same-bytes
+    part-same-bytes-start
+    part-same-bytes-end
+    slice-aggregate-same-bytes
+    same-bytes-requires
+    refuse-requires-2
+    returns-2
+    is-clear-requires
+    refuse-requires-3
+    returns-3
+    read-requires
+    sound-requires
+    refuse-requires-4
+    returns-4
+    returns-5)

@@ -1,0 +1,10 @@
+pub mod Typing
+pub mod Laying
+pub mod Digits
+pub mod Words
+pub mod Cutting
+pub mod Keeping
+pub mod Whole
+pub mod Printed
+pub mod Back
+pub mod Examples

@@ -1,0 +1,32 @@
+// Lines from an input that comes in pieces.
+ghost use mathlib.Core.Path.{_≡_};
+ghost use lib.ListN.{drop};
+ghost use Rattle.lines.specs.Pieces.{cutFrom};
+use crate::Cut;
+use crate::Text;
+use crate::kept::push;
+
+// From a place in a piece to the end of a line, which may have begun in a piece before.
+pub fn cut_from(t: Text, piece: &[u8], at: usize) -> Cut
+    ensures { λ r. ⌜ r ≡ cutFrom t at (drop at (now (piece .entry))) ⌝ }
+{
+    let mut u = t;
+    let mut i = at;
+    while i < piece.len() {
+        let b = piece[i];
+        if b == b'\n' {
+            return Cut {
+                text: u,
+                next: i + 1,
+                whole: true,
+            };
+        }
+        u = push(u, b);
+        i += 1;
+    }
+    Cut {
+        text: u,
+        next: i,
+        whole: false,
+    }
+}

@@ -1,0 +1,56 @@
+-- Lines said in pieces, and all that the program writes.
+-- Assumes nothing.
+use Prim.Native.Nat.{ℕ}
+use mathlib.Core.List.{List, [], _∷_, _++_, append-assoc}
+use mathlib.Core.Path.{_≡_, refl, sym, ap, ap₂, _∙_}
+use Rattle.rules.specs.Events.{eventOf}
+use Rattle.rules.specs.Record.{freshOf}
+use Rattle.rules.specs.declared.Device.{Device}
+use Rattle.lines.proofs.Whole.{said-append, kept-append, said-lines}
+use Rattle.lines.specs.Answers.{answerText}
+use Rattle.lines.specs.Lines.{eventIn}
+use Rattle.lines.specs.Pieces.{saidIn, keptAfter, saidAll, joined}
+use Rattle.lines.specs.declared.Line.{Line}
+use Rattle.lines.specs.declared.Text.{Text}
+use Rattle.session.specs.Sessions.{answersTo, deviceAfter, outputOf, startOf, afterOf, answersIn, answersLast, writtenBy}
+use Rattle.session.specs.declared.Session.{Session}
+
+pub device-append : (d : Device) (ls ms : List Line) → deviceAfter d (ls ++ ms) ≡ deviceAfter (deviceAfter d ls) ms
+unfolding deviceAfter
+device-append d [] ms = refl
+device-append d (l ∷ ls) ms = device-append (eventOf d (eventIn l) .device) ls ms
+
+pub answers-to-append : (d : Device) (ls ms : List Line) → answersTo d (ls ++ ms) ≡ answersTo d ls ++ answersTo (deviceAfter d ls) ms
+unfolding answersTo deviceAfter
+answers-to-append d [] ms = refl
+answers-to-append d (l ∷ ls) ms =
+    let o = eventOf d (eventIn l) in
+    ap (λ (w : List ℕ). answerText (o .answer) ++ w) (answers-to-append (o .device) ls ms)
+    ∙ sym (append-assoc (answerText (o .answer)) (answersTo (o .device) ls) (answersTo (deviceAfter (o .device) ls) ms))
+
+abbrev session : Device → Text → Session
+session d t = record { device = d; text = t }
+
+-- two pieces are one
+pub after-append : (s : Session) (p q : List ℕ) → afterOf s (p ++ q) ≡ afterOf (afterOf s p) q
+unfolding afterOf
+after-append s p q =
+    ap₂ (λ (ls : List Line) (u : Text). session (deviceAfter (s .device) ls) u) (said-append (s .text) p q) (kept-append (s .text) p q)
+    ∙ ap (λ (d : Device). session d (keptAfter (keptAfter (s .text) p) q)) (device-append (s .device) (saidIn (s .text) p) (saidIn (keptAfter (s .text) p) q))
+
+pub answers-append : (s : Session) (p q : List ℕ) → answersIn s (p ++ q) ≡ answersIn s p ++ answersIn (afterOf s p) q
+unfolding answersIn afterOf
+answers-append s p q =
+    ap (answersTo (s .device)) (said-append (s .text) p q) ∙ answers-to-append (s .device) (saidIn (s .text) p) (saidIn (keptAfter (s .text) p) q)
+
+-- ---- the whole run: the answers to the pieces one after the other, and to the last line, are those to the lines of the input
+written-said : (s : Session) (ps : List (List ℕ)) → writtenBy s ps ≡ answersTo (s .device) (saidAll (s .text) ps)
+unfolding writtenBy saidAll answersIn answersLast afterOf
+written-said s [] = refl
+written-said s (p ∷ ps) =
+    ap (λ (w : List ℕ). answersTo (s .device) (saidIn (s .text) p) ++ w) (written-said (afterOf s p) ps)
+    ∙ sym (answers-to-append (s .device) (saidIn (s .text) p) (saidAll (keptAfter (s .text) p) ps))
+
+pub written : (ps : List (List ℕ)) → writtenBy startOf ps ≡ outputOf (joined ps)
+unfolding outputOf
+written ps = written-said startOf ps ∙ ap (answersTo freshOf) (said-lines ps)

@@ -1,0 +1,3 @@
+pub mod Telling
+pub mod Laws
+pub mod Feeding

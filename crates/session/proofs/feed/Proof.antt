@@ -1,0 +1,88 @@
+-- `feed` meets its contract: so far the session and the answers are those of the bytes read.
+-- Assumes nothing.
+use Prim.Native.Nat.{_+_, _-_, _≤_, _<_}
+use mathlib.Core.Path.{ap}
+use native.Mathlib.Omega.{arith}
+use borrow.Author.Tests.{ltb-true, leb-true}
+use lib.Dec.{ltb, leb}
+use lib.ListN.{length}
+use denote.Ref.{now}
+use Rattle.session.specs.declared.Fed.{Fed}
+use Rattle.session.proofs.Feeding.{SoFar, none-yet, one-more, at-end, len-within, out-length, both, fed-on}
+use Rattle.session.proofs.feed.Statement.{statement}
+use Rattle.session.proofs.feed.Tie as tie
+
+abbrev Inv-loop : tie.InvT-loop
+Inv-loop piece at out₀ f₀ out f = SoFar (f₀ .session) piece at out₀ f out
+
+abbrev μ-loop : tie.MeasureT-loop
+μ-loop piece at out₀ f₀ out f = length piece - f .next
+
+loop-holds : tie.Need-loop-holds Inv-loop μ-loop
+loop-holds c = none-yet _ _ _ _
+
+add-if1 : tie.Need-add-if1 Inv-loop μ-loop
+add-if1 c =
+    let l = c .before .before .loop in
+    let a = c .before .before .before .before .before .args in
+    let n = len-within (a .s) (now (a .piece)) (a .at) (now (a .out)) (l .f) (l .out) (l .inv) in
+    let o = out-length (a .s) (now (a .piece)) (a .at) (now (a .out)) (l .f) (l .out) (l .inv) in
+    omega arith
+
+-- in a turn there are bytes left, and room for an answer
+going : (c : tie.Then1 Inv-loop μ-loop)
+    → (c .before .before .before .loop .f .next < length (now (c .before .before .before .before .before .before .args .piece)))
+    × (c .before .before .before .loop .f .len + 80 ≤ length (c .before .before .before .loop .out))
+going c =
+    let l = c .before .before .before .loop in
+    let piece = now (c .before .before .before .before .before .before .args .piece) in
+    let e = both (ltb (l .f .next) (length piece)) (leb (l .f .len + 80) (length (l .out))) (c .if1 .taken) in
+    (ltb-true (l .f .next) (length piece) (e .0), leb-true (l .f .len + 80) (length (l .out)) (e .1))
+
+take-line-requires : tie.Need-take-line-requires Inv-loop μ-loop
+take-line-requires c κs = going (c .before) .1
+
+loop-less : tie.Need-loop-less Inv-loop μ-loop
+loop-less c =
+    let t = c .before .before in
+    let l = c .before .before .before .before .before .before .before .loop in
+    let piece = now (c .before .before .before .before .before .before .before .before .before .before .args .piece) in
+    let g = going (c .before .before .before .before) .0 in
+    let h = fed-on (l .f) piece g in
+    let n = ap (λ (f : Fed). f .next) (t .take-line .ensures .0) in
+    omega arith
+
+loop-again : tie.Need-loop-again Inv-loop μ-loop
+loop-again c =
+    let t = c .before .before in
+    let l = c .before .before .before .before .before .before .before .loop in
+    let a = c .before .before .before .before .before .before .before .before .before .before .args in
+    one-more (a .s) (now (a .piece)) (a .at) (now (a .out)) (l .f) (l .out) (l .inv) (t .take-line .result) _ (going (c .before .before .before .before) .1)
+    (t .take-line .ensures .0) (t .take-line .ensures .1)
+
+same-length : tie.Need-same-length Inv-loop μ-loop
+same-length c =
+    let l = c .before .before .before .loop in
+    let a = c .before .before .before .before .before .before .args in
+    out-length (a .s) (now (a .piece)) (a .at) (now (a .out)) (l .f) (l .out) (l .inv)
+
+returns : tie.Need-returns Inv-loop μ-loop
+returns c =
+    let l = c .before .before .before .loop in
+    let a = c .before .before .before .before .before .before .args in
+    let e = at-end (a .s) (now (a .piece)) (a .at) (now (a .out)) (l .f) (l .out) (l .inv) (c .if1 .left) in
+    (e .0, (e .1, len-within (a .s) (now (a .piece)) (a .at) (now (a .out)) (l .f) (l .out) (l .inv)))
+
+pub feed-spec : {M : Type 1} → statement M
+feed-spec =
+    tie.close
+    (tie.spec
+    Inv-loop
+    μ-loop
+    loop-holds
+    add-if1
+    take-line-requires
+    loop-less
+    loop-again
+    same-length
+    returns)

@@ -1,0 +1,60 @@
+use Prim.Native.Nat.{ℕ, _+_}
+use mathlib.Core.Bool.{cond}
+use mathlib.Core.List.{List}
+use mathlib.Core.Path.{_≡_, ap, _∙_}
+use borrow.Author.Needs.{needs}
+use lib.ListN.{length}
+use denote.Ref.{now}
+use Rattle.rules.specs.Events.{eventOf}
+use Rattle.rules.specs.declared.Outcome.{Outcome}
+use Rattle.lines.proofs.Printed.{answer-bytes}
+use Rattle.lines.specs.Answers.{answerText, fits, laidOf}
+use Rattle.lines.specs.Kept.{bytesOf}
+use Rattle.lines.specs.Lines.{eventIn}
+use Rattle.session.specs.Sessions.{outcomeBy}
+use Rattle.session.proofs.tell.Statement.{statement}
+use Rattle.session.proofs.tell.Tie as tie
+
+says-requires : tie.Need-says-requires
+says-requires c κs = search needs
+
+event-in-requires : tie.Need-event-in-requires
+event-in-requires c κs = search needs
+
+event-requires : tie.Need-event-requires
+event-requires c κs = search needs
+
+answer-text-requires : tie.Need-answer-text-requires
+answer-text-requires c κs = search needs
+
+lay-requires : tie.Need-lay-requires
+lay-requires c κs = search needs
+
+same-length : tie.Need-same-length
+same-length c = search needs
+
+returns : tie.Need-returns
+returns c =
+    let l = c .before .before in
+    let x = l .before .before in
+    let v = x .before .before .before in
+    let a = v .before .before .before .before .args in
+    let o : v .event .result ≡ outcomeBy (a .d) (a .t) =
+    v .event .ensures ∙ ap (eventOf (a .d)) (v .before .event-in .ensures ∙ ap eventIn (v .before .before .says .ensures)) in
+    let w : bytesOf (x .answer-text .result) ≡ answerText (outcomeBy (a .d) (a .t) .answer) =
+    ap bytesOf (x .answer-text .ensures) ∙ answer-bytes (v .event .result .answer) ∙ ap (λ (r : Outcome). answerText (r .answer)) o in (
+      ap (λ (r : Outcome). r .device) o,
+      (l .lay .ensures .0 ∙ ap (laidOf (now (a .out)) (a .at)) w, l .lay .ensures .1 ∙ ap (λ (b : List ℕ). cond (fits (now (a .out)) (a .at) b) (a .at + length b) (a .at)) w),
+    )
+
+pub tell-spec : {M : Type 1} → statement M
+tell-spec =
+    tie.close
+    (tie.spec
+    says-requires
+    event-in-requires
+    event-requires
+    answer-text-requires
+    lay-requires
+    same-length
+    returns)

@@ -1,0 +1,83 @@
+-- The session of the trace program. Paper 01, "The trace program": "From the fresh device, reads standard input: .. Each line
+-- prints ..".
+-- Assumes nothing.
+use Prim.Native.Nat.{ℕ, suc, _+_}
+use mathlib.Core.Bool.{cond}
+use mathlib.Core.List.{List, [], _∷_, _++_, map}
+use lib.Dec.{ltb}
+use lib.ListN.{length, take, drop}
+use Rattle.rules.specs.Events.{eventOf}
+use Rattle.rules.specs.Record.{freshOf}
+use Rattle.rules.specs.declared.Device.{Device}
+use Rattle.rules.specs.declared.Outcome.{Outcome}
+use Rattle.lines.specs.Answers.{answerText}
+use Rattle.lines.specs.Kept.{noText, most}
+use Rattle.lines.specs.Lines.{eventIn, lineOf, saysOf}
+use Rattle.lines.specs.Pieces.{linesOf, lineLen, saidIn, keptAfter, saidLast}
+use Rattle.lines.specs.declared.Line.{Line}
+use Rattle.lines.specs.declared.Text.{Text}
+use Rattle.session.specs.declared.Fed.{Fed}
+use Rattle.session.specs.declared.Session.{Session}
+
+-- a line that is kept, said to a device
+abbrev pub outcomeBy : Device → Text → Outcome
+outcomeBy d t = eventOf d (eventIn (saysOf t))
+
+-- ---- lines said to a device one after the other: the bytes of their answers, and the device after them
+unfoldable pub answersTo : Device → List Line → List ℕ
+answersTo d [] = []
+answersTo d (l ∷ ls) = answerText (eventOf d (eventIn l) .answer) ++ answersTo (eventOf d (eventIn l) .device) ls
+
+unfoldable pub deviceAfter : Device → List Line → Device
+deviceAfter d [] = d
+deviceAfter d (l ∷ ls) = deviceAfter (eventOf d (eventIn l) .device) ls
+
+-- all that the program writes, for all that it reads
+unfoldable pub outputOf : List ℕ → List ℕ
+outputOf input = answersTo freshOf (map lineOf (linesOf input))
+
+-- ---- in pieces
+abbrev pub startOf : Session
+startOf = record { device = freshOf; text = noText }
+
+-- a session after the bytes p, and the answers to the lines that end in them
+unfoldable pub afterOf : Session → List ℕ → Session
+afterOf s p = record { device = deviceAfter (s .device) (saidIn (s .text) p); text = keptAfter (s .text) p }
+
+unfoldable pub answersIn : Session → List ℕ → List ℕ
+answersIn s p = answersTo (s .device) (saidIn (s .text) p)
+
+-- the answer to a last line with no line feed
+unfoldable pub answersLast : Session → List ℕ
+answersLast s = answersTo (s .device) (saidLast (s .text))
+
+-- all that is written for an input that comes in these pieces
+unfoldable pub writtenBy : Session → List (List ℕ) → List ℕ
+writtenBy s [] = answersLast s
+writtenBy s (p ∷ ps) = answersIn s p ++ writtenBy (afterOf s p) ps
+
+-- ---- into a buffer of some room, n bytes of which are answers already: how many bytes of m are read before an answer
+-- might find no room
+unfoldable pub readIn : ℕ → Session → ℕ → List ℕ → ℕ
+readIn room s n [] = 0
+readIn room s n (b ∷ m) =
+    cond (ltb room (n + most)) 0 (suc (readIn room (afterOf s (b ∷ [])) (n + length (answersIn s (b ∷ []))) m))
+
+-- the bytes of a piece that are read from a place on, into an empty buffer
+unfoldable pub readOf : Session → List ℕ → ℕ → List ℕ → List ℕ
+readOf s piece at out = take (readIn (length out) s 0 (drop at piece)) (drop at piece)
+
+unfoldable pub fedBy : Session → ℕ → List ℕ → Fed
+fedBy s at p = record { session = afterOf s p; next = at + length p; len = length (answersIn s p) }
+
+-- answers at the start of a buffer
+unfoldable pub answered : List ℕ → List ℕ → List ℕ
+answered w out = w ++ drop (length w) out
+
+-- ---- one line of a piece, from place i on
+unfoldable pub lineIn : List ℕ → ℕ → List ℕ
+lineIn piece i = take (lineLen (drop i piece)) (drop i piece)
+
+unfoldable pub lineFed : Fed → List ℕ → Fed
+lineFed f p =
+    record { session = afterOf (f .session) p; next = f .next + length p; len = f .len + length (answersIn (f .session) p) }

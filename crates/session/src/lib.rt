@@ -1,0 +1,112 @@
+// The session of the trace program: a device, what is kept of a line that has not ended, and answers in a lent buffer.
+ghost use mathlib.Core.Path.{_≡_};
+ghost use mathlib.Core.Bool.{cond};
+ghost use Prim.Native.Nat.{_+_, _≤_};
+ghost use lib.ListN.{length};
+ghost use Rattle.lines.specs.Answers.{answerText, fits, laidOf};
+ghost use Rattle.session.specs.Sessions.{outcomeBy, startOf, answersIn, answersLast, readOf, fedBy, answered, lineIn, lineFed};
+use lines::Text;
+use rules::Device;
+
+pub struct Session {
+    pub device: Device,
+    pub text: Text,
+}
+
+// A session after some bytes of a piece: the place after them, and how long the answers in the buffer are.
+pub struct Fed {
+    pub session: Session,
+    pub next: usize,
+    pub len: usize,
+}
+
+// From the fresh device.
+pub fn start() -> Session
+    ensures { λ r. ⌜ r ≡ startOf ⌝ }
+{
+    Session {
+        device: Device::fresh(),
+        text: lines::no_text(),
+    }
+}
+
+// A device after a line, and where its answer ends in the buffer.
+struct Told {
+    device: Device,
+    len: usize,
+}
+
+// Says a line that is kept to the device, and lays the answer into the buffer from a place.
+fn tell(d: Device, t: Text, out: &mut [u8], at: usize) -> Told
+    ensures { λ r. ⌜ r .device ≡ outcomeBy d t .device ⌝ }
+    ensures { λ r. ⌜ now (out .exit) ≡ laidOf (now (out .entry)) at (answerText (outcomeBy d t .answer)) ⌝ }
+    ensures { λ r. ⌜ r .len ≡ cond (fits (now (out .entry)) at (answerText (outcomeBy d t .answer))) (at + length (answerText (outcomeBy d t .answer))) at ⌝ }
+{
+    let o = event::event(d, lines::event_in(lines::says(t)));
+    let e = o.device;
+    let a = o.answer;
+    let n = lines::lay(lines::answer_text(a), out, at);
+    Told { device: e, len: n }
+}
+
+// One line more of a piece, or what there is of one.
+fn take_line(f: Fed, piece: &[u8], out: &mut [u8]) -> Fed
+    requires { ⌜ f .len + 80 ≤ length (now out) ⌝ }
+    ensures { λ r. ⌜ r ≡ lineFed f (lineIn (now (piece .entry)) (f .next)) ⌝ }
+    ensures { λ r. ⌜ now (out .exit) ≡ laidOf (now (out .entry)) (f .len) (answersIn (f .session) (lineIn (now (piece .entry)) (f .next))) ⌝ }
+{
+    let s = f.session;
+    let d = s.device;
+    let t = s.text;
+    let c = lines::cut_from(t, piece, f.next);
+    let u = c.text;
+    if c.whole {
+        let a = tell(d, u, out, f.len);
+        let e = a.device;
+        return Fed {
+            session: Session {
+                device: e,
+                text: lines::no_text(),
+            },
+            next: c.next,
+            len: a.len,
+        };
+    }
+    Fed {
+        session: Session { device: d, text: u },
+        next: c.next,
+        len: f.len,
+    }
+}
+
+// A piece from a place on, up to its end or until an answer might find no room in the buffer.
+pub fn feed(s: Session, piece: &[u8], at: usize, out: &mut [u8]) -> Fed
+    ensures { λ r. ⌜ r ≡ fedBy s at (readOf s (now (piece .entry)) at (now (out .entry))) ⌝ }
+    ensures { λ r. ⌜ now (out .exit) ≡ answered (answersIn s (readOf s (now (piece .entry)) at (now (out .entry)))) (now (out .entry)) ⌝ }
+    ensures { λ r. ⌜ r .len ≤ length (now (out .exit)) ⌝ }
+{
+    let mut f = Fed {
+        session: s,
+        next: at,
+        len: 0,
+    };
+    while (f.next < piece.len()) & (f.len + lines::MOST <= out.len()) {
+        f = take_line(f, piece, out);
+    }
+    f
+}
+
+// At the end of the input: a last line with no line feed.
+pub fn finish(s: Session, out: &mut [u8]) -> usize
+    ensures { λ r. ⌜ now (out .exit) ≡ laidOf (now (out .entry)) 0 (answersLast s) ⌝ }
+    ensures { λ r. ⌜ r ≡ cond (fits (now (out .entry)) 0 (answersLast s)) (length (answersLast s)) 0 ⌝ }
+    ensures { λ r. ⌜ r ≤ length (now (out .exit)) ⌝ }
+{
+    let t = s.text;
+    if t.len == 0 {
+        return 0;
+    }
+    let d = s.device;
+    let a = tell(d, t, out, 0);
+    a.len
+}

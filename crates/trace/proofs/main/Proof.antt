@@ -1,0 +1,60 @@
+-- `main` is safe, and ends.
+-- Assumes nothing.
+use mathlib.Core.Path.{sym}
+use borrow.Author.Needs.{needs}
+use lib.Seq.{length-take-le}
+use Rattle.trace.proofs.main.Statement.{statement}
+use Rattle.trace.proofs.main.Tie as tie
+
+large-buffer-requires : tie.Need-large-buffer-requires
+large-buffer-requires c κs = search needs
+
+large-buffer-requires-2 : tie.Need-large-buffer-requires-2
+large-buffer-requires-2 c κs = search needs
+
+start-requires : tie.Need-start-requires
+start-requires c κs = search needs
+
+slice-aggregate-answer-all : tie.Need-slice-aggregate-answer-all
+slice-aggregate-answer-all c = search needs
+
+slice-aggregate-answer-all-2 : tie.Need-slice-aggregate-answer-all-2
+slice-aggregate-answer-all-2 c = search needs
+
+answer-all-requires : tie.Need-answer-all-requires
+answer-all-requires c κs = search needs
+
+slice-aggregate-finish : tie.Need-slice-aggregate-finish
+slice-aggregate-finish c = search needs
+
+finish-requires : tie.Need-finish-requires
+finish-requires c κs = search needs
+
+array-share-prefix-out : tie.Need-array-share-prefix-out
+array-share-prefix-out c = search needs
+
+slice-aggregate-write-all : tie.Need-slice-aggregate-write-all
+slice-aggregate-write-all c = sym (length-take-le _ _ (c .before .before .finish .ensures .1 .1))
+
+write-all-requires : tie.Need-write-all-requires
+write-all-requires c κs = search needs
+
+returns : tie.Need-returns
+returns c = search needs
+
+pub main-spec : {M : Type 1} → statement M
+main-spec =
+    tie.close
+    (tie.spec
+    large-buffer-requires
+    large-buffer-requires-2
+    start-requires
+    slice-aggregate-answer-all
+    slice-aggregate-answer-all-2
+    answer-all-requires
+    slice-aggregate-finish
+    finish-requires
+    array-share-prefix-out
+    slice-aggregate-write-all
+    write-all-requires
+    returns)

@@ -1,0 +1,18 @@
+use Rattle.bodies.specs.Written.{linesOf}
+use borrow.Author.Needs.{needs}
+use Rattle.writing.proofs.lines.Statement.{statement}
+use Rattle.writing.proofs.lines.Tie as tie
+
+weight-requires : tie.Need-weight-requires
+weight-requires c κs = search needs
+
+weight-requires-2 : tie.Need-weight-requires-2
+weight-requires-2 c κs = search needs
+
+returns : tie.Need-returns
+unfolding linesOf
+returns c =
+    simp (c .weight2 .ensures .0, c .before .weight .ensures .0)
+
+pub lines-spec : {M : Type 1} → statement M
+lines-spec = tie.close (tie.spec weight-requires weight-requires-2 returns)
