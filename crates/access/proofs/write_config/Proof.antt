@@ -32,7 +32,14 @@ enable-requires-3 c κs = search needs
 
 returns : tie.Need-returns
 unfolding configWritten
-returns c = simp (c .before .before .before .before .before .before .before .enable .ensures, c .before .before .before .before .before .before .before .before .before .counter-on .ensures, c .before .before .before .before .enable2 .ensures, c .before .before .before .before .before .before .counter-on2 .ensures, c .before .enable3 .ensures, c .before .before .before .counter-on3 .ensures)
+returns c =
+    let b3 = c .before .before .before in
+    let b4 = b3 .before in
+    let b6 = b4 .before .before in
+    let b7 = b6 .before in
+    let b9 = b7 .before .before in
+    simp
+    (b7 .enable .ensures, b9 .counter-on .ensures, b4 .enable2 .ensures, b6 .counter-on2 .ensures, c .before .enable3 .ensures, b3 .counter-on3 .ensures)
 
 pub write-config-spec : {M : Type 1} → statement M
 write-config-spec =

@@ -18,11 +18,17 @@ count-requires c κs = search needs
 
 returns-2 : tie.Need-returns-2
 unfolding turnOf counts
-returns-2 c = simp (← c .before .before .before .before .before .before .before .before .takes-trigger .ensures, c .before .before .before .before .before .before .if1 .left, c .before .if2 .taken, c .count .ensures)
+returns-2 c =
+    let b6 = c .before .before .before .before .before .before in
+    let b8 = b6 .before .before in
+    simp (← b8 .takes-trigger .ensures, b6 .if1 .left, c .before .if2 .taken, c .count .ensures)
 
 returns-3 : tie.Need-returns-3
 unfolding turnOf counts
-returns-3 c = simp (← c .before .before .before .before .before .before .before .takes-trigger .ensures, c .before .before .before .before .before .if1 .left, c .if2 .left)
+returns-3 c =
+    let b5 = c .before .before .before .before .before in
+    let b7 = b5 .before .before in
+    simp (← b7 .takes-trigger .ensures, b5 .if1 .left, c .if2 .left)
 
 pub turn-by-spec : {M : Type 1} → statement M
 turn-by-spec =

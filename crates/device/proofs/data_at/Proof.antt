@@ -24,7 +24,12 @@ seen-requires c κs = search needs
 
 returns : tie.Need-returns
 unfolding dataAt
-returns c = simp (c .seen .ensures, c .before .level .ensures, c .before .before .pins-at .ensures, c .before .before .before .port-enabled .ensures, c .before .before .before .before .before .if1 .taken)
+returns c =
+    let b2 = c .before .before in
+    let b3 = b2 .before in
+    let b5 = b3 .before .before in
+    simp
+    (c .seen .ensures, c .before .level .ensures, b2 .pins-at .ensures, b3 .port-enabled .ensures, b5 .if1 .taken)
 
 seen-at-requires : tie.Need-seen-at-requires
 seen-at-requires c κs = search needs

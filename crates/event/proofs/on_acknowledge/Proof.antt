@@ -34,14 +34,27 @@ accepted-requires c κs = search needs
 
 returns : tie.Need-returns
 unfolding acknowledgeDone acknowledged acknowledge
-returns c = c .accepted .ensures ∙ accepts _ _ (code-acknowledge _ _ (c .before .before .before .before .before .before .pre .0) (c .before .before .before .before .before .before .pre .1) ∙ (simp (← c .before .before .before .before .before .requester-of .ensures .0, ne-eqb (c .before .before .before .before .before .requester-of .result) 5 (λ z. omega arith)))) (sym (acknowledge-done _ _ (c .before .before .before .before .before .before .pre .1) ∙ (simp (c .before .serve .ensures, c .before .before .before .acknowledge-by .ensures, c .before .before .before .before .before .requester-of .ensures .0))))
+returns c =
+    let b3 = c .before .before .before in
+    let b5 = b3 .before .before in
+    let b6 = b5 .before in
+    c .accepted .ensures
+    ∙ accepts _ _
+    (code-acknowledge _ _ (b6 .pre .0) (b6 .pre .1) ∙ (simp (← b5 .requester-of .ensures .0, ne-eqb (b5 .requester-of .result) 5 (λ z. omega arith))))
+    (sym (acknowledge-done _ _ (b6 .pre .1) ∙ (simp (c .before .serve .ensures, b3 .acknowledge-by .ensures, b5 .requester-of .ensures .0))))
 
 refused-requires : tie.Need-refused-requires
 refused-requires c κs = search needs
 
 returns-2 : tie.Need-returns-2
 unfolding acknowledgeDone acknowledged acknowledge
-returns-2 c = c .refused .ensures ∙ refuses _ _ 6 (code-acknowledge _ _ (c .before .before .before .pre .0) (c .before .before .before .pre .1) ∙ (let z : c .before .before .requester-of .result ≡ 5 = omega (arith, c .before .before .requester-of .ensures .1) in simp (← c .before .before .requester-of .ensures .0, z))) refl refl
+returns-2 c =
+    let b2 = c .before .before in
+    let b3 = b2 .before in
+    c .refused .ensures
+    ∙ refuses _ _ 6
+    (code-acknowledge _ _ (b3 .pre .0) (b3 .pre .1) ∙ (let z : b2 .requester-of .result ≡ 5 = omega (arith, b2 .requester-of .ensures .1) in simp (← b2 .requester-of .ensures .0, z)))
+    refl refl
 
 pub on-acknowledge-spec : {M : Type 1} → statement M
 on-acknowledge-spec =

@@ -13,7 +13,12 @@ outcome-requires c κs = search needs
 
 returns : tie.Need-returns
 unfolding clocksDone
-returns c = c .outcome .ensures ∙ accepts _ _ (code-clocks _ _ (c .before .before .before .before .pre .0) (c .before .before .before .before .pre .1)) (simp (c .before .before .before .run .ensures) (sym (clocks-done _ _ (c .before .before .before .before .pre .1))))
+returns c =
+    let b3 = c .before .before .before in
+    let b4 = b3 .before in
+    c .outcome .ensures
+    ∙ accepts _ _ (code-clocks _ _ (b4 .pre .0) (b4 .pre .1))
+    (simp (b3 .run .ensures) (sym (clocks-done _ _ (b4 .pre .1))))
 
 pub on-clocks-spec : {M : Type 1} → statement M
 on-clocks-spec = tie.close (tie.spec run-requires outcome-requires returns)

@@ -11,14 +11,21 @@ refused-requires c κs = search needs
 
 returns : tie.Need-returns
 unfolding ieiDone
-returns c = c .refused .ensures ∙ refuses _ _ 5 (code-iei _ _ (c .before .before .pre .0) (c .before .before .pre .1) ∙ (simp (lt-ltb _ _ (c .before .if1 .taken)))) refl refl
+returns c =
+    let b2 = c .before .before in
+    c .refused .ensures
+    ∙ refuses _ _ 5 (code-iei _ _ (b2 .pre .0) (b2 .pre .1) ∙ (simp (lt-ltb _ _ (c .before .if1 .taken)))) refl refl
 
 accepted-requires : tie.Need-accepted-requires
 accepted-requires c κs = search needs
 
 returns-2 : tie.Need-returns-2
 unfolding ieiDone
-returns-2 c = c .accepted .ensures ∙ accepts _ _ (code-iei _ _ (c .before .before .pre .0) (c .before .before .pre .1) ∙ (simp (le-ltb _ _ (c .before .if1 .left)))) (sym (iei-done _ _ (c .before .before .pre .1)))
+returns-2 c =
+    let b2 = c .before .before in
+    c .accepted .ensures
+    ∙ accepts _ _ (code-iei _ _ (b2 .pre .0) (b2 .pre .1) ∙ (simp (le-ltb _ _ (c .before .if1 .left))))
+    (sym (iei-done _ _ (b2 .pre .1)))
 
 pub on-iei-spec : {M : Type 1} → statement M
 on-iei-spec = tie.close (tie.spec refused-requires returns accepted-requires returns-2)

@@ -13,14 +13,22 @@ refused-requires c κs = search needs
 
 returns : tie.Need-returns
 unfolding readDone
-returns c = c .refused .ensures ∙ refuses _ _ 2 (code-read _ _ (c .before .before .before .pre .0) (c .before .before .before .pre .1) ∙ (simp (lt-ltb _ _ (c .before .if1 .taken)))) refl refl
+returns c =
+    let b3 = c .before .before .before in
+    c .refused .ensures
+    ∙ refuses _ _ 2 (code-read _ _ (b3 .pre .0) (b3 .pre .1) ∙ (simp (lt-ltb _ _ (c .before .if1 .taken)))) refl refl
 
 accepted-requires : tie.Need-accepted-requires
 accepted-requires c κs = search needs
 
 returns-2 : tie.Need-returns-2
 unfolding readDone
-returns-2 c = c .accepted .ensures ∙ accepts _ _ (code-read _ _ (c .before .before .before .before .before .before .pre .0) (c .before .before .before .before .before .before .pre .1) ∙ (simp (le-ltb _ _ (c .before .before .before .before .if1 .left)))) (sym (read-done _ _ (c .before .before .before .before .before .before .pre .1) ∙ (simp (div-one, c .before .if2 .taken))))
+returns-2 c =
+    let b4 = c .before .before .before .before in
+    let b6 = b4 .before .before in
+    c .accepted .ensures
+    ∙ accepts _ _ (code-read _ _ (b6 .pre .0) (b6 .pre .1) ∙ (simp (le-ltb _ _ (b4 .if1 .left))))
+    (sym (read-done _ _ (b6 .pre .1) ∙ (simp (div-one, c .before .if2 .taken))))
 
 kind-of-requires : tie.Need-kind-of-requires
 kind-of-requires c κs = search needs
@@ -38,7 +46,15 @@ accepted-requires-2 c κs = search needs
 
 returns-3 : tie.Need-returns-3
 unfolding readDone
-returns-3 c = c .accepted2 .ensures ∙ accepts _ _ (code-read _ _ (c .before .before .before .before .before .before .before .before .before .pre .0) (c .before .before .before .before .before .before .before .before .before .pre .1) ∙ (simp (le-ltb _ _ (c .before .before .before .before .before .before .before .if1 .left)))) (sym (read-done _ _ (c .before .before .before .before .before .before .before .before .before .pre .1) ∙ (simp (div-one, c .before .before .before .before .if2 .left, c .before .before .after-read .ensures, c .before .read .ensures, c .before .before .before .kind-of .ensures))))
+returns-3 c =
+    let b2 = c .before .before in
+    let b3 = b2 .before in
+    let b4 = b3 .before in
+    let b7 = b4 .before .before .before in
+    let b9 = b7 .before .before in
+    c .accepted2 .ensures
+    ∙ accepts _ _ (code-read _ _ (b9 .pre .0) (b9 .pre .1) ∙ (simp (le-ltb _ _ (b7 .if1 .left))))
+    (sym (read-done _ _ (b9 .pre .1) ∙ (simp (div-one, b4 .if2 .left, b2 .after-read .ensures, c .before .read .ensures, b3 .kind-of .ensures))))
 
 pub on-read-spec : {M : Type 1} → statement M
 on-read-spec =

@@ -11,7 +11,11 @@ accepted-requires : tie.Need-accepted-requires
 accepted-requires c κs = search needs
 
 returns : tie.Need-returns
-returns c = c .accepted .ensures ∙ accepts _ _ (code-reset _ _ (c .before .before .pre .0) (c .before .before .pre .1)) (simp (c .before .reset .ensures) (sym (reset-done _ _ (c .before .before .pre .1))))
+returns c =
+    let b2 = c .before .before in
+    c .accepted .ensures
+    ∙ accepts _ _ (code-reset _ _ (b2 .pre .0) (b2 .pre .1))
+    (simp (c .before .reset .ensures) (sym (reset-done _ _ (b2 .pre .1))))
 
 pub on-reset-spec : {M : Type 1} → statement M
 on-reset-spec = tie.close (tie.spec reset-requires accepted-requires returns)

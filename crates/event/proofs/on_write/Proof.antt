@@ -13,21 +13,37 @@ refused-requires c κs = search needs
 
 returns : tie.Need-returns
 unfolding writeDone
-returns c = c .refused .ensures ∙ refuses _ _ 2 (code-write _ _ (c .before .before .before .pre .0) (c .before .before .before .pre .1) ∙ (simp (lt-ltb _ _ (c .before .if1 .taken)))) refl refl
+returns c =
+    let b3 = c .before .before .before in
+    c .refused .ensures
+    ∙ refuses _ _ 2 (code-write _ _ (b3 .pre .0) (b3 .pre .1) ∙ (simp (lt-ltb _ _ (c .before .if1 .taken)))) refl refl
 
 refused-requires-2 : tie.Need-refused-requires-2
 refused-requires-2 c κs = search needs
 
 returns-2 : tie.Need-returns-2
 unfolding writeDone
-returns-2 c = c .refused2 .ensures ∙ refuses _ _ 5 (code-write _ _ (c .before .before .before .before .pre .0) (c .before .before .before .before .pre .1) ∙ (simp (le-ltb _ _ (c .before .before .if1 .left), lt-ltb _ _ (c .before .if2 .taken)))) refl refl
+returns-2 c =
+    let b2 = c .before .before in
+    let b4 = b2 .before .before in
+    c .refused2 .ensures
+    ∙ refuses _ _ 5
+    (code-write _ _ (b4 .pre .0) (b4 .pre .1) ∙ (simp (le-ltb _ _ (b2 .if1 .left), lt-ltb _ _ (c .before .if2 .taken))))
+    refl refl
 
 accepted-requires : tie.Need-accepted-requires
 accepted-requires c κs = search needs
 
 returns-3 : tie.Need-returns-3
 unfolding writeDone
-returns-3 c = c .accepted .ensures ∙ accepts _ _ (code-write _ _ (c .before .before .before .before .before .before .before .pre .0) (c .before .before .before .before .before .before .before .pre .1) ∙ (simp (le-ltb _ _ (c .before .before .before .before .before .if1 .left), le-ltb _ _ (c .before .before .before .before .if2 .left), div-one, c .before .if3 .taken))) (sym (write-done _ _ (c .before .before .before .before .before .before .before .pre .1) ∙ (simp (div-one, c .before .if3 .taken))))
+returns-3 c =
+    let b4 = c .before .before .before .before in
+    let b5 = b4 .before in
+    let b7 = b5 .before .before in
+    c .accepted .ensures
+    ∙ accepts _ _
+    (code-write _ _ (b7 .pre .0) (b7 .pre .1) ∙ (simp (le-ltb _ _ (b5 .if1 .left), le-ltb _ _ (b4 .if2 .left), div-one, c .before .if3 .taken)))
+    (sym (write-done _ _ (b7 .pre .1) ∙ (simp (div-one, c .before .if3 .taken))))
 
 kind-of-requires : tie.Need-kind-of-requires
 kind-of-requires c κs = search needs
@@ -40,7 +56,17 @@ refused-requires-3 c κs = search needs
 
 returns-4 : tie.Need-returns-4
 unfolding writeDone
-returns-4 c = c .refused3 .ensures ∙ refuses _ _ 3 (code-write _ _ (c .before .before .before .before .before .before .before .before .before .before .pre .0) (c .before .before .before .before .before .before .before .before .before .before .pre .1) ∙ (simp (le-ltb _ _ (c .before .before .before .before .before .before .before .before .if1 .left), le-ltb _ _ (c .before .before .before .before .before .before .before .if2 .left), div-one, c .before .before .before .before .if3 .left, ← c .before .before .before .kind-of .ensures, ← c .before .before .read-only .ensures, c .before .if4 .taken))) refl refl
+returns-4 c =
+    let b2 = c .before .before in
+    let b3 = b2 .before in
+    let b4 = b3 .before in
+    let b7 = b4 .before .before .before in
+    let b8 = b7 .before in
+    let b10 = b8 .before .before in
+    c .refused3 .ensures
+    ∙ refuses _ _ 3
+    (code-write _ _ (b10 .pre .0) (b10 .pre .1) ∙ (simp (le-ltb _ _ (b8 .if1 .left), le-ltb _ _ (b7 .if2 .left), div-one, b4 .if3 .left, ← b3 .kind-of .ensures, ← b2 .read-only .ensures, c .before .if4 .taken)))
+    refl refl
 
 cast-is-later : tie.Need-cast-is-later
 cast-is-later c = search needs
@@ -53,7 +79,19 @@ refused-requires-4 c κs = search needs
 
 returns-5 : tie.Need-returns-5
 unfolding writeDone
-returns-5 c = c .refused4 .ensures ∙ refuses _ _ 4 (code-write _ _ (c .before .before .before .before .before .before .before .before .before .before .before .before .pre .0) (c .before .before .before .before .before .before .before .before .before .before .before .before .pre .1) ∙ (simp (le-ltb _ _ (c .before .before .before .before .before .before .before .before .before .before .if1 .left), le-ltb _ _ (c .before .before .before .before .before .before .before .before .before .if2 .left), div-one, c .before .before .before .before .before .before .if3 .left, ← c .before .before .before .before .before .kind-of .ensures, ← c .before .before .before .before .read-only .ensures, c .before .before .before .if4 .left, ← c .before .before .is-later .ensures, c .before .if5 .taken))) refl refl
+returns-5 c =
+    let b2 = c .before .before in
+    let b3 = b2 .before in
+    let b4 = b3 .before in
+    let b5 = b4 .before in
+    let b6 = b5 .before in
+    let b9 = b6 .before .before .before in
+    let b10 = b9 .before in
+    let b12 = b10 .before .before in
+    c .refused4 .ensures
+    ∙ refuses _ _ 4
+    (code-write _ _ (b12 .pre .0) (b12 .pre .1) ∙ (simp (le-ltb _ _ (b10 .if1 .left), le-ltb _ _ (b9 .if2 .left), div-one, b6 .if3 .left, ← b5 .kind-of .ensures, ← b4 .read-only .ensures, b3 .if4 .left, ← b2 .is-later .ensures, c .before .if5 .taken)))
+    refl refl
 
 cast-write : tie.Need-cast-write
 cast-write c = search needs
@@ -70,7 +108,21 @@ accepted-requires-2 c κs = search needs
 
 returns-6 : tie.Need-returns-6
 unfolding writeDone
-returns-6 c = c .accepted2 .ensures ∙ accepts _ _ (code-write _ _ (c .before .before .before .before .before .before .before .before .before .before .before .before .before .before .pre .0) (c .before .before .before .before .before .before .before .before .before .before .before .before .before .before .pre .1) ∙ (simp (le-ltb _ _ (c .before .before .before .before .before .before .before .before .before .before .before .before .if1 .left), le-ltb _ _ (c .before .before .before .before .before .before .before .before .before .before .before .if2 .left), div-one, c .before .before .before .before .before .before .before .before .if3 .left, ← c .before .before .before .before .before .before .before .kind-of .ensures, ← c .before .before .before .before .before .before .read-only .ensures, c .before .before .before .before .before .if4 .left, ← c .before .before .before .before .is-later .ensures, c .before .before .before .if5 .left))) (sym (write-done _ _ (c .before .before .before .before .before .before .before .before .before .before .before .before .before .before .pre .1) ∙ (simp (div-one, c .before .before .before .before .before .before .before .before .if3 .left, c .before .step .ensures, c .before .before .write .ensures, c .before .before .before .before .before .before .before .kind-of .ensures))))
+returns-6 c =
+    let b2 = c .before .before in
+    let b3 = b2 .before in
+    let b4 = b3 .before in
+    let b5 = b4 .before in
+    let b6 = b5 .before in
+    let b7 = b6 .before in
+    let b8 = b7 .before in
+    let b11 = b8 .before .before .before in
+    let b12 = b11 .before in
+    let b14 = b12 .before .before in
+    c .accepted2 .ensures
+    ∙ accepts _ _
+    (code-write _ _ (b14 .pre .0) (b14 .pre .1) ∙ (simp (le-ltb _ _ (b12 .if1 .left), le-ltb _ _ (b11 .if2 .left), div-one, b8 .if3 .left, ← b7 .kind-of .ensures, ← b6 .read-only .ensures, b5 .if4 .left, ← b4 .is-later .ensures, b3 .if5 .left)))
+    (sym (write-done _ _ (b14 .pre .1) ∙ (simp (div-one, b8 .if3 .left, c .before .step .ensures, b2 .write .ensures, b7 .kind-of .ensures))))
 
 pub on-write-spec : {M : Type 1} → statement M
 on-write-spec =

@@ -38,7 +38,11 @@ with-status-requires-3 c κs = search needs
 
 returns-5 : tie.Need-returns-5
 unfolding vectorFor vectorOf vis
-returns-5 c = simp (c .with-status3 .ensures, ne-eqb _ _ (c .before .before .before .if1 .left), ne-eqb _ _ (c .before .before .if3 .left), eq-eqb _ _ (c .before .if5 .taken))
+returns-5 c =
+    let b2 = c .before .before in
+    let b3 = b2 .before in
+    simp
+    (c .with-status3 .ensures, ne-eqb _ _ (b3 .if1 .left), ne-eqb _ _ (b2 .if3 .left), eq-eqb _ _ (c .before .if5 .taken))
 
 element-copy-out-result-3 : tie.Need-element-copy-out-result-3
 element-copy-out-result-3 c = search needs

@@ -35,7 +35,13 @@ with-status-requires-3 c κs = search needs
 
 returns-4 : tie.Need-returns-4
 unfolding vectorRead
-returns-4 c = simp (c .with-status3 .ensures, c .before .before .before .before .before .if1 .left, ne-eqb _ _ (c .before .before .before .before .if2 .left), ne-eqb _ _ (c .before .before .before .if3 .left), ← c .before .before .pending-counter .ensures .0, ne-eqb (c .before .before .pending-counter .result) 5 (λ z. omega arith))
+returns-4 c =
+    let b2 = c .before .before in
+    let b3 = b2 .before in
+    let b4 = b3 .before in
+    let b5 = b4 .before in
+    simp
+    (c .with-status3 .ensures, b5 .if1 .left, ne-eqb _ _ (b4 .if2 .left), ne-eqb _ _ (b3 .if3 .left), ← b2 .pending-counter .ensures .0, ne-eqb (b2 .pending-counter .result) 5 (λ z. omega arith))
 
 returns-5 : tie.Need-returns-5
 unfolding vectorRead

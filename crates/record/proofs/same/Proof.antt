@@ -20,7 +20,14 @@ same-sources-requires c κs = search needs
 
 returns : tie.Need-returns
 unfolding sameOf
-returns c = simp (c .before .before .before .before .before .before .before .before .before .before .before .before .same-vectors .ensures, c .before .before .before .before .before .before .before .before .before .before .before .same-ports .ensures, c .before .before .before .before .before .before .before .before .before .before .same-patterns .ensures, c .before .before .before .before .before .before .before .before .before .same-counters .ensures, c .before .before .before .before .before .before .before .before .same-sources .ensures)
+returns c =
+    let b8 = c .before .before .before .before .before .before .before .before in
+    let b9 = b8 .before in
+    let b10 = b9 .before in
+    let b11 = b10 .before in
+    let b12 = b11 .before in
+    simp
+    (b12 .same-vectors .ensures, b11 .same-ports .ensures, b10 .same-patterns .ensures, b9 .same-counters .ensures, b8 .same-sources .ensures)
 
 pub same-spec : {M : Type 1} → statement M
 same-spec =

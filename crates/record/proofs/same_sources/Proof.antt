@@ -20,7 +20,12 @@ same-source-at-requires-5 c κs = search needs
 
 returns : tie.Need-returns
 unfolding sameSources
-returns c = simp (c .before .before .before .before .same-source-at .ensures, c .before .before .before .same-source-at2 .ensures, c .before .before .same-source-at3 .ensures, c .before .same-source-at4 .ensures, c .same-source-at5 .ensures)
+returns c =
+    let b2 = c .before .before in
+    let b3 = b2 .before in
+    let b4 = b3 .before in
+    simp
+    (b4 .same-source-at .ensures, b3 .same-source-at2 .ensures, b2 .same-source-at3 .ensures, c .before .same-source-at4 .ensures, c .same-source-at5 .ensures)
 
 pub same-sources-spec : {M : Type 1} → statement M
 same-sources-spec =

@@ -38,7 +38,13 @@ later-counter-mode-requires-3 c κs = search needs
 
 returns : tie.Need-returns
 unfolding noLater
-returns c = simp (c .before .before .before .before .before .later-config .ensures, c .before .before .before .before .later-port-mode .ensures, c .before .before .before .later-port-mode2 .ensures, c .before .before .later-counter-mode .ensures, c .before .later-counter-mode2 .ensures, c .later-counter-mode3 .ensures)
+returns c =
+    let b2 = c .before .before in
+    let b3 = b2 .before in
+    let b4 = b3 .before in
+    let b5 = b4 .before in
+    simp
+    (b5 .later-config .ensures, b4 .later-port-mode .ensures, b3 .later-port-mode2 .ensures, b2 .later-counter-mode .ensures, c .before .later-counter-mode2 .ensures, c .later-counter-mode3 .ensures)
 
 pub no-later-spec : {M : Type 1} → statement M
 no-later-spec =

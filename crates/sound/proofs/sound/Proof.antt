@@ -23,7 +23,13 @@ reset-only-requires c κs = search needs
 
 returns : tie.Need-returns
 unfolding soundOf
-returns c = simp (c .before .before .before .before .before .no-later .ensures, c .before .before .before .before .sound-sources .ensures, c .before .before .before .sound-counters .ensures, c .before .before .sound-ports .ensures, c .before .sound-patterns .ensures, c .reset-only .ensures)
+returns c =
+    let b2 = c .before .before in
+    let b3 = b2 .before in
+    let b4 = b3 .before in
+    let b5 = b4 .before in
+    simp
+    (b5 .no-later .ensures, b4 .sound-sources .ensures, b3 .sound-counters .ensures, b2 .sound-ports .ensures, c .before .sound-patterns .ensures, c .reset-only .ensures)
 
 pub sound-spec : {M : Type 1} → statement M
 sound-spec =

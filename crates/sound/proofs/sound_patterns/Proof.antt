@@ -23,7 +23,10 @@ pmf-only-requires-2 c κs = search needs
 
 returns : tie.Need-returns
 unfolding soundPatterns
-returns c = simp (c .before .before .pmf-only .ensures, c .pmf-only2 .ensures, c .before .before .before .port-enabled .ensures, c .before .port-enabled2 .ensures)
+returns c =
+    let b2 = c .before .before in
+    let b3 = b2 .before in
+    simp (b2 .pmf-only .ensures, c .pmf-only2 .ensures, b3 .port-enabled .ensures, c .before .port-enabled2 .ensures)
 
 pub sound-patterns-spec : {M : Type 1} → statement M
 sound-patterns-spec =

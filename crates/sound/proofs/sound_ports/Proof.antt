@@ -20,7 +20,11 @@ sound-port-at-requires-3 c κs = search needs
 
 returns : tie.Need-returns
 unfolding soundPorts
-returns c = simp (c .before .before .before .four-bits .ensures, c .before .before .sound-port-at .ensures, c .before .sound-port-at2 .ensures, c .sound-port-at3 .ensures)
+returns c =
+    let b2 = c .before .before in
+    let b3 = b2 .before in
+    simp
+    (b3 .four-bits .ensures, b2 .sound-port-at .ensures, c .before .sound-port-at2 .ensures, c .sound-port-at3 .ensures)
 
 pub sound-ports-spec : {M : Type 1} → statement M
 sound-ports-spec =

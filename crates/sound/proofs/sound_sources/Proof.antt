@@ -20,7 +20,12 @@ sound-source-at-requires-5 c κs = search needs
 
 returns : tie.Need-returns
 unfolding soundSources
-returns c = simp (c .before .before .before .before .sound-source-at .ensures, c .before .before .before .sound-source-at2 .ensures, c .before .before .sound-source-at3 .ensures, c .before .sound-source-at4 .ensures, c .sound-source-at5 .ensures)
+returns c =
+    let b2 = c .before .before in
+    let b3 = b2 .before in
+    let b4 = b3 .before in
+    simp
+    (b4 .sound-source-at .ensures, b3 .sound-source-at2 .ensures, b2 .sound-source-at3 .ensures, c .before .sound-source-at4 .ensures, c .sound-source-at5 .ensures)
 
 pub sound-sources-spec : {M : Type 1} → statement M
 sound-sources-spec =

@@ -21,11 +21,19 @@ returns-4 c = (simp (c .before .before .before .if1 .left, c .before .before .if
 
 returns-5 : tie.Need-returns-5
 unfolding firstOf
-returns-5 c = (simp (c .before .before .before .before .if1 .left, c .before .before .before .if2 .left, c .before .before .if3 .left, c .before .if4 .left, c .if5 .taken), lit≤ tt)
+returns-5 c =
+    let b2 = c .before .before in
+    let b3 = b2 .before in
+    let b4 = b3 .before in
+    (simp (b4 .if1 .left, b3 .if2 .left, b2 .if3 .left, c .before .if4 .left, c .if5 .taken), lit≤ tt)
 
 returns-6 : tie.Need-returns-6
 unfolding firstOf
-returns-6 c = (simp (c .before .before .before .before .if1 .left, c .before .before .before .if2 .left, c .before .before .if3 .left, c .before .if4 .left, c .if5 .left), lit≤ tt)
+returns-6 c =
+    let b2 = c .before .before in
+    let b3 = b2 .before in
+    let b4 = b3 .before in
+    (simp (b4 .if1 .left, b3 .if2 .left, b2 .if3 .left, c .before .if4 .left, c .if5 .left), lit≤ tt)
 
 pub first-spec : {M : Type 1} → statement M
 first-spec = tie.close (tie.spec returns returns-2 returns-3 returns-4 returns-5 returns-6)

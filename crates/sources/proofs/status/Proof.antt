@@ -27,7 +27,10 @@ add-result-3 c = search needs
 
 returns : tie.Need-returns
 unfolding statusOf
-returns c = (simp (c .before .before .before .weight .ensures .0, c .before .before .weight2 .ensures .0, c .before .weight3 .ensures .0, c .weight4 .ensures .0), omega arith)
+returns c =
+    let b2 = c .before .before in
+    let b3 = b2 .before in
+    (simp (b3 .weight .ensures .0, b2 .weight2 .ensures .0, c .before .weight3 .ensures .0, c .weight4 .ensures .0), omega arith)
 
 pub status-spec : {M : Type 1} → statement M
 status-spec =

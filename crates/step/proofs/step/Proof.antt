@@ -56,7 +56,22 @@ settle-requires c κs = search needs
 
 returns : tie.Need-returns
 unfolding stepOf
-returns c = simp (c .settle .ensures, c .before .before .seen-at .ensures, c .before .seen-at2 .ensures, c .before .before .before .counter-turn3 .ensures, c .before .before .before .before .lines-at6 .ensures, c .before .before .before .before .before .lines-at5 .ensures, c .before .before .before .before .before .before .counter-turn2 .ensures, c .before .before .before .before .before .before .before .lines-at4 .ensures, c .before .before .before .before .before .before .before .before .lines-at3 .ensures, c .before .before .before .before .before .before .before .before .before .link .ensures, c .before .before .before .before .before .before .before .before .before .before .output2 .ensures, c .before .before .before .before .before .before .before .before .before .before .before .before .output .ensures, c .before .before .before .before .before .before .before .before .before .before .before .before .before .before .before .before .counter-turn .ensures, c .before .before .before .before .before .before .before .before .before .before .before .before .before .before .before .before .before .lines-at2 .ensures, c .before .before .before .before .before .before .before .before .before .before .before .before .before .before .before .before .before .before .lines-at .ensures)
+returns c =
+    let b2 = c .before .before in
+    let b3 = b2 .before in
+    let b4 = b3 .before in
+    let b5 = b4 .before in
+    let b6 = b5 .before in
+    let b7 = b6 .before in
+    let b8 = b7 .before in
+    let b9 = b8 .before in
+    let b10 = b9 .before in
+    let b12 = b10 .before .before in
+    let b16 = b12 .before .before .before .before in
+    let b17 = b16 .before in
+    let b18 = b17 .before in
+    simp
+    (c .settle .ensures, b2 .seen-at .ensures, c .before .seen-at2 .ensures, b3 .counter-turn3 .ensures, b4 .lines-at6 .ensures, b5 .lines-at5 .ensures, b6 .counter-turn2 .ensures, b7 .lines-at4 .ensures, b8 .lines-at3 .ensures, b9 .link .ensures, b10 .output2 .ensures, b12 .output .ensures, b16 .counter-turn .ensures, b17 .lines-at2 .ensures, b18 .lines-at .ensures)
 
 pub step-spec : {M : Type 1} → statement M
 step-spec =
