@@ -1,0 +1,68 @@
+use borrow.Author.Needs.{needs}
+use Rattle.lines.specs.Kept.{typed}
+use Rattle.words.specs.Cells.{numberCell}
+use Rattle.words.specs.Spelled.{spelled}
+use Rattle.words.proofs.cells.number_cell.Statement.{statement}
+use Rattle.words.proofs.cells.number_cell.Tie as tie
+
+slice-aggregate-word : tie.Need-slice-aggregate-word
+slice-aggregate-word c = search needs
+
+word-requires : tie.Need-word-requires
+word-requires c κs = search needs
+
+digit-requires : tie.Need-digit-requires
+digit-requires c κs = search needs
+
+push-requires : tie.Need-push-requires
+push-requires c κs = search needs
+
+digit-requires-2 : tie.Need-digit-requires-2
+digit-requires-2 c κs = search needs
+
+push-requires-2 : tie.Need-push-requires-2
+push-requires-2 c κs = search needs
+
+digit-requires-3 : tie.Need-digit-requires-3
+digit-requires-3 c κs = search needs
+
+push-requires-3 : tie.Need-push-requires-3
+push-requires-3 c κs = search needs
+
+digit-requires-4 : tie.Need-digit-requires-4
+digit-requires-4 c κs = search needs
+
+push-requires-4 : tie.Need-push-requires-4
+push-requires-4 c κs = search needs
+
+cast-push : tie.Need-cast-push
+cast-push c = search needs
+
+add-push : tie.Need-add-push
+add-push c = search needs
+
+push-requires-5 : tie.Need-push-requires-5
+push-requires-5 c κs = search needs
+
+returns : tie.Need-returns
+unfolding typed numberCell spelled
+returns c = simp (c .push5 .ensures, c .before .push4 .ensures, c .before .before .digit4 .ensures, c .before .before .before .push3 .ensures, c .before .before .before .before .digit3 .ensures, c .before .before .before .before .before .push2 .ensures, c .before .before .before .before .before .before .digit2 .ensures, c .before .before .before .before .before .before .before .push .ensures, c .before .before .before .before .before .before .before .before .digit .ensures, c .before .before .before .before .before .before .before .before .before .word .ensures)
+
+pub number-cell-spec : {M : Type 1} → statement M
+number-cell-spec =
+    tie.close
+    (tie.spec
+    slice-aggregate-word
+    word-requires
+    digit-requires
+    push-requires
+    digit-requires-2
+    push-requires-2
+    digit-requires-3
+    push-requires-3
+    digit-requires-4
+    push-requires-4
+    cast-push
+    add-push
+    push-requires-5
+    returns)

@@ -1,0 +1,36 @@
+use borrow.Author.Needs.{needs}
+use Rattle.words.specs.Shown.{halfCell}
+use Rattle.words.specs.Spelled.{spelled}
+use Rattle.words.proofs.counters_shown.half_cell.Statement.{statement}
+use Rattle.words.proofs.counters_shown.half_cell.Tie as tie
+
+slice-aggregate-word : tie.Need-slice-aggregate-word
+slice-aggregate-word c = search needs
+
+word-requires : tie.Need-word-requires
+word-requires c κs = search needs
+
+returns : tie.Need-returns
+unfolding halfCell spelled
+returns c = simp (c .word .ensures, c .before .before .if1 .taken)
+
+slice-aggregate-word-2 : tie.Need-slice-aggregate-word-2
+slice-aggregate-word-2 c = search needs
+
+word-requires-2 : tie.Need-word-requires-2
+word-requires-2 c κs = search needs
+
+returns-2 : tie.Need-returns-2
+unfolding halfCell spelled
+returns-2 c = simp (c .word2 .ensures, c .before .before .if1 .left)
+
+pub half-cell-spec : {M : Type 1} → statement M
+half-cell-spec =
+    tie.close
+    (tie.spec
+    slice-aggregate-word
+    word-requires
+    returns
+    slice-aggregate-word-2
+    word-requires-2
+    returns-2)

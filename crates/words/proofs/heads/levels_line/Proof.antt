@@ -1,0 +1,65 @@
+use borrow.Author.Needs.{needs}
+use Rattle.lines.specs.Kept.{typed}
+use Rattle.words.specs.Shown.{levelsLine}
+use Rattle.words.specs.Spelled.{spelled}
+use Rattle.lines.proofs.Typing.{typed-append}
+use Rattle.words.proofs.heads.levels_line.Statement.{statement}
+use Rattle.words.proofs.heads.levels_line.Tie as tie
+
+int-requires : tie.Need-int-requires
+int-requires c κs = search needs
+
+ieo-requires : tie.Need-ieo-requires
+ieo-requires c κs = search needs
+
+no-text-requires : tie.Need-no-text-requires
+no-text-requires c κs = search needs
+
+slice-aggregate-named : tie.Need-slice-aggregate-named
+slice-aggregate-named c = search needs
+
+named-requires : tie.Need-named-requires
+named-requires c κs = search needs
+
+slice-aggregate-named-2 : tie.Need-slice-aggregate-named-2
+slice-aggregate-named-2 c = search needs
+
+named-requires-2 : tie.Need-named-requires-2
+named-requires-2 c κs = search needs
+
+slice-aggregate-named-3 : tie.Need-slice-aggregate-named-3
+slice-aggregate-named-3 c = search needs
+
+named-requires-3 : tie.Need-named-requires-3
+named-requires-3 c κs = search needs
+
+slice-aggregate-named-4 : tie.Need-slice-aggregate-named-4
+slice-aggregate-named-4 c = search needs
+
+named-requires-4 : tie.Need-named-requires-4
+named-requires-4 c κs = search needs
+
+push-requires : tie.Need-push-requires
+push-requires c κs = search needs
+
+returns : tie.Need-returns
+unfolding typed levelsLine spelled
+returns c = simp (typed-append, c .push .ensures, c .before .named4 .ensures, c .before .before .before .named3 .ensures, c .before .before .before .before .before .named2 .ensures, c .before .before .before .before .before .before .before .named .ensures, c .before .before .before .before .before .before .before .before .before .no-text .ensures, c .before .before .before .before .before .before .before .before .before .before .ieo .ensures, c .before .before .before .before .before .before .before .before .before .before .before .int .ensures)
+
+pub levels-line-spec : {M : Type 1} → statement M
+levels-line-spec =
+    tie.close
+    (tie.spec
+    int-requires
+    ieo-requires
+    no-text-requires
+    slice-aggregate-named
+    named-requires
+    slice-aggregate-named-2
+    named-requires-2
+    slice-aggregate-named-3
+    named-requires-3
+    slice-aggregate-named-4
+    named-requires-4
+    push-requires
+    returns)

@@ -1,0 +1,36 @@
+use borrow.Author.Needs.{needs}
+use Rattle.lines.specs.Kept.{typed}
+use Rattle.words.specs.Shown.{portLine}
+use Rattle.lines.proofs.Typing.{typed-append}
+use Rattle.words.proofs.ports_shown.port_line.Statement.{statement}
+use Rattle.words.proofs.ports_shown.port_line.Tie as tie
+
+port-label-requires : tie.Need-port-label-requires
+port-label-requires c κs = search needs
+
+port-cell-requires : tie.Need-port-cell-requires
+port-cell-requires c κs = search needs
+
+port-cell-requires-2 : tie.Need-port-cell-requires-2
+port-cell-requires-2 c κs = search needs
+
+port-cell-requires-3 : tie.Need-port-cell-requires-3
+port-cell-requires-3 c κs = search needs
+
+push-requires : tie.Need-push-requires
+push-requires c κs = search needs
+
+returns : tie.Need-returns
+unfolding typed portLine
+returns c = simp (typed-append, c .push .ensures, c .before .port-cell3 .ensures, c .before .before .port-cell2 .ensures, c .before .before .before .port-cell .ensures, c .before .before .before .before .port-label .ensures)
+
+pub port-line-spec : {M : Type 1} → statement M
+port-line-spec =
+    tie.close
+    (tie.spec
+    port-label-requires
+    port-cell-requires
+    port-cell-requires-2
+    port-cell-requires-3
+    push-requires
+    returns)

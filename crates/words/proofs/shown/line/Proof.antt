@@ -1,0 +1,99 @@
+use borrow.Author.Needs.{needs}
+use borrow.Author.Tests.{lt-ltb, le-ltb}
+use Rattle.words.specs.Shown.{shownLine}
+use Rattle.words.specs.Spelled.{spelled}
+use Rattle.words.proofs.shown.line.Statement.{statement}
+use Rattle.words.proofs.shown.line.Tie as tie
+
+head-line-requires : tie.Need-head-line-requires
+head-line-requires c κs = search needs
+
+returns : tie.Need-returns
+unfolding shownLine spelled
+returns c = simp (c .head-line .ensures, lt-ltb _ _ (c .before .if1 .taken))
+
+port-line-requires : tie.Need-port-line-requires
+port-line-requires c κs = search needs
+
+returns-2 : tie.Need-returns-2
+unfolding shownLine spelled
+returns-2 c = simp (c .port-line .ensures, lt-ltb _ _ (c .before .if2 .taken), le-ltb _ _ (c .before .before .if1 .left))
+
+pattern-line-requires : tie.Need-pattern-line-requires
+pattern-line-requires c κs = search needs
+
+returns-3 : tie.Need-returns-3
+unfolding shownLine spelled
+returns-3 c = simp (c .pattern-line .ensures, lt-ltb _ _ (c .before .if3 .taken), le-ltb _ _ (c .before .before .if2 .left), le-ltb _ _ (c .before .before .before .if1 .left))
+
+no-text-requires : tie.Need-no-text-requires
+no-text-requires c κs = search needs
+
+slice-aggregate-word : tie.Need-slice-aggregate-word
+slice-aggregate-word c = search needs
+
+word-requires : tie.Need-word-requires
+word-requires c κs = search needs
+
+returns-4 : tie.Need-returns-4
+unfolding shownLine spelled
+returns-4 c = simp (c .word .ensures, c .before .before .no-text .ensures, lt-ltb _ _ (c .before .before .before .if4 .taken), le-ltb _ _ (c .before .before .before .before .if3 .left), le-ltb _ _ (c .before .before .before .before .before .if2 .left), le-ltb _ _ (c .before .before .before .before .before .before .if1 .left))
+
+counter-line-requires : tie.Need-counter-line-requires
+counter-line-requires c κs = search needs
+
+returns-5 : tie.Need-returns-5
+unfolding shownLine spelled
+returns-5 c = simp (c .counter-line .ensures, lt-ltb _ _ (c .before .if5 .taken), le-ltb _ _ (c .before .before .if4 .left), le-ltb _ _ (c .before .before .before .if3 .left), le-ltb _ _ (c .before .before .before .before .if2 .left), le-ltb _ _ (c .before .before .before .before .before .if1 .left))
+
+no-text-requires-2 : tie.Need-no-text-requires-2
+no-text-requires-2 c κs = search needs
+
+slice-aggregate-word-2 : tie.Need-slice-aggregate-word-2
+slice-aggregate-word-2 c = search needs
+
+word-requires-2 : tie.Need-word-requires-2
+word-requires-2 c κs = search needs
+
+returns-6 : tie.Need-returns-6
+unfolding shownLine spelled
+returns-6 c = simp (c .word2 .ensures, c .before .before .no-text2 .ensures, lt-ltb _ _ (c .before .before .before .if6 .taken), le-ltb _ _ (c .before .before .before .before .if5 .left), le-ltb _ _ (c .before .before .before .before .before .if4 .left), le-ltb _ _ (c .before .before .before .before .before .before .if3 .left), le-ltb _ _ (c .before .before .before .before .before .before .before .if2 .left), le-ltb _ _ (c .before .before .before .before .before .before .before .before .if1 .left))
+
+source-line-requires : tie.Need-source-line-requires
+source-line-requires c κs = search needs
+
+returns-7 : tie.Need-returns-7
+unfolding shownLine spelled
+returns-7 c = simp (c .source-line .ensures, lt-ltb _ _ (c .before .if7 .taken), le-ltb _ _ (c .before .before .if6 .left), le-ltb _ _ (c .before .before .before .if5 .left), le-ltb _ _ (c .before .before .before .before .if4 .left), le-ltb _ _ (c .before .before .before .before .before .if3 .left), le-ltb _ _ (c .before .before .before .before .before .before .if2 .left), le-ltb _ _ (c .before .before .before .before .before .before .before .if1 .left))
+
+tail-line-requires : tie.Need-tail-line-requires
+tail-line-requires c κs = search needs
+
+returns-8 : tie.Need-returns-8
+unfolding shownLine spelled
+returns-8 c = simp (c .tail-line .ensures, le-ltb _ _ (c .before .if7 .left), le-ltb _ _ (c .before .before .if6 .left), le-ltb _ _ (c .before .before .before .if5 .left), le-ltb _ _ (c .before .before .before .before .if4 .left), le-ltb _ _ (c .before .before .before .before .before .if3 .left), le-ltb _ _ (c .before .before .before .before .before .before .if2 .left), le-ltb _ _ (c .before .before .before .before .before .before .before .if1 .left))
+
+pub line-spec : {M : Type 1} → statement M
+line-spec =
+    tie.close
+    (tie.spec
+    head-line-requires
+    returns
+    port-line-requires
+    returns-2
+    pattern-line-requires
+    returns-3
+    no-text-requires
+    slice-aggregate-word
+    word-requires
+    returns-4
+    counter-line-requires
+    returns-5
+    no-text-requires-2
+    slice-aggregate-word-2
+    word-requires-2
+    returns-6
+    source-line-requires
+    returns-7
+    tail-line-requires
+    returns-8)

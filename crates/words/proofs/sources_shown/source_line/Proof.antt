@@ -1,0 +1,64 @@
+use borrow.Author.Needs.{needs}
+use Rattle.lines.specs.Kept.{typed}
+use Rattle.words.specs.Shown.{sourceLine}
+use Rattle.lines.proofs.Typing.{typed-append}
+use Rattle.words.proofs.sources_shown.source_line.Statement.{statement}
+use Rattle.words.proofs.sources_shown.source_line.Tie as tie
+
+element-copy-out-s0 : tie.Need-element-copy-out-s0
+element-copy-out-s0 c = search needs
+
+element-copy-out-s1 : tie.Need-element-copy-out-s1
+element-copy-out-s1 c = search needs
+
+element-copy-out-s2 : tie.Need-element-copy-out-s2
+element-copy-out-s2 c = search needs
+
+element-copy-out-s3 : tie.Need-element-copy-out-s3
+element-copy-out-s3 c = search needs
+
+element-copy-out-s4 : tie.Need-element-copy-out-s4
+element-copy-out-s4 c = search needs
+
+source-label-requires : tie.Need-source-label-requires
+source-label-requires c κs = search needs
+
+source-cell-requires : tie.Need-source-cell-requires
+source-cell-requires c κs = search needs
+
+source-cell-requires-2 : tie.Need-source-cell-requires-2
+source-cell-requires-2 c κs = search needs
+
+source-cell-requires-3 : tie.Need-source-cell-requires-3
+source-cell-requires-3 c κs = search needs
+
+source-cell-requires-4 : tie.Need-source-cell-requires-4
+source-cell-requires-4 c κs = search needs
+
+source-cell-requires-5 : tie.Need-source-cell-requires-5
+source-cell-requires-5 c κs = search needs
+
+push-requires : tie.Need-push-requires
+push-requires c κs = search needs
+
+returns : tie.Need-returns
+unfolding typed sourceLine
+returns c = simp (typed-append, c .push .ensures, c .before .source-cell5 .ensures, c .before .before .source-cell4 .ensures, c .before .before .before .source-cell3 .ensures, c .before .before .before .before .source-cell2 .ensures, c .before .before .before .before .before .source-cell .ensures, c .before .before .before .before .before .before .source-label .ensures)
+
+pub source-line-spec : {M : Type 1} → statement M
+source-line-spec =
+    tie.close
+    (tie.spec
+    element-copy-out-s0
+    element-copy-out-s1
+    element-copy-out-s2
+    element-copy-out-s3
+    element-copy-out-s4
+    source-label-requires
+    source-cell-requires
+    source-cell-requires-2
+    source-cell-requires-3
+    source-cell-requires-4
+    source-cell-requires-5
+    push-requires
+    returns)

@@ -1,0 +1,4 @@
+pub mod Spelled
+pub mod Cells
+pub mod Shown
+pub mod Refusals

@@ -1,0 +1,88 @@
+// Words, bits and numbers, each in a column of twelve bytes.
+ghost use mathlib.Core.Path.{_≡_};
+ghost use Prim.Native.Nat.{_<_};
+ghost use Rattle.lines.specs.Kept.{typed};
+ghost use Rattle.lines.specs.Answers.{glyphOf};
+ghost use Rattle.words.specs.Cells.{bitCell, yesCell, byteCell, placed, numberCell};
+ghost use Rattle.words.specs.Shown.{named as namedOf};
+use lines::Text;
+use lines::push;
+
+pub fn word(t: Text, w: &[u8]) -> Text
+    ensures { λ r. ⌜ r ≡ typed t (now (w .entry)) ⌝ }
+{
+    let mut u = t;
+    let mut i = 0;
+    while i < w.len() {
+        u = push(u, w[i]);
+        i += 1;
+    }
+    u
+}
+
+// A name and its bit.
+pub fn named(t: Text, w: &[u8], f: bool) -> Text
+    ensures { λ r. ⌜ r ≡ typed t (namedOf (now (w .entry)) f) ⌝ }
+{
+    let u = word(t, w);
+    if f {
+        return push(u, b'1');
+    }
+    push(u, b'0')
+}
+
+pub fn bit_cell(t: Text, f: bool) -> Text
+    ensures { λ r. ⌜ r ≡ typed t (bitCell f) ⌝ }
+{
+    if f {
+        return word(t, b"           1");
+    }
+    word(t, b"           0")
+}
+
+pub fn yes_cell(t: Text, f: bool) -> Text
+    ensures { λ r. ⌜ r ≡ typed t (yesCell f) ⌝ }
+{
+    if f {
+        return word(t, b"         yes");
+    }
+    word(t, b"          no")
+}
+
+// The capital hexadecimal digit of the lower four bits.
+fn glyph(n: u8) -> u8
+    ensures { λ r. ⌜ r ≡ glyphOf n ⌝ }
+{
+    if n % 16 < 10 {
+        return 48 + n % 16;
+    }
+    55 + n % 16
+}
+
+pub fn byte_cell(t: Text, n: u8) -> Text
+    ensures { λ r. ⌜ r ≡ typed t (byteCell n) ⌝ }
+{
+    let u = word(t, b"          ");
+    push(push(u, glyph(n / 16)), glyph(n))
+}
+
+// The digit at the place of a power of ten, or a space.
+fn digit(p: u32, n: u32) -> u8
+    requires { ⌜ 0 < p ⌝ }
+    ensures { λ r. ⌜ r ≡ placed p n ⌝ }
+{
+    if n < p {
+        return b' ';
+    }
+    48 + (n / p % 10) as u8
+}
+
+pub fn number_cell(t: Text, n: u32) -> Text
+    ensures { λ r. ⌜ r ≡ typed t (numberCell n) ⌝ }
+{
+    let t4 = push(word(t, b"       "), digit(10000, n));
+    let t3 = push(t4, digit(1000, n));
+    let t2 = push(t3, digit(100, n));
+    let t1 = push(t2, digit(10, n));
+    push(t1, 48 + (n % 10) as u8)
+}

@@ -1,0 +1,132 @@
+// The counters, a fact a line: its label, and a column for each counter.
+ghost use mathlib.Core.Path.{_≡_};
+ghost use Prim.Native.Nat.{_<_};
+ghost use Rattle.lines.specs.Kept.{noText, typed};
+ghost use Rattle.words.specs.Shown.{counterLabel, modeCell, againCell, countsCell, countShown, halfCell, frozenCell, counterCell, counterColumn, counterLine};
+use crate::cells::bit_cell;
+use crate::cells::number_cell;
+use crate::cells::word;
+use crate::cells::yes_cell;
+use lines::Text;
+use lines::push;
+use rules::Counter;
+use rules::Device;
+
+fn counter_label(row: usize) -> Text
+    ensures { λ r. ⌜ r ≡ typed noText (counterLabel row) ⌝ }
+{
+    let t = lines::no_text();
+    match row {
+        0 => word(t, b"enabled         "),
+        1 => word(t, b"mode            "),
+        2 => word(t, b"                "),
+        3 => word(t, b"counts          "),
+        4 => word(t, b"trigger line    "),
+        5 => word(t, b"gate line       "),
+        6 => word(t, b"output line     "),
+        7 => word(t, b"retrigger       "),
+        8 => word(t, b"time constant   "),
+        9 => word(t, b"count           "),
+        10 => word(t, b"gate (GCB)      "),
+        11 => word(t, b"in progress CIP "),
+        12 => word(t, b"half            "),
+        13 => word(t, b"frozen count    "),
+        _ => word(t, b"output          "),
+    }
+}
+
+fn mode_cell(t: Text, mode: u8) -> Text
+    ensures { λ r. ⌜ r ≡ typed t (modeCell mode) ⌝ }
+{
+    match mode % 4 {
+        0 => word(t, b"       pulse"),
+        1 => word(t, b"    one-shot"),
+        _ => word(t, b"      square"),
+    }
+}
+
+fn again_cell(t: Text, continuous: bool) -> Text
+    ensures { λ r. ⌜ r ≡ typed t (againCell continuous) ⌝ }
+{
+    if continuous {
+        return word(t, b"  continuous");
+    }
+    word(t, b"      single")
+}
+
+fn counts_cell(t: Text, input: bool) -> Text
+    ensures { λ r. ⌜ r ≡ typed t (countsCell input) ⌝ }
+{
+    if input {
+        return word(t, b"   its input");
+    }
+    word(t, b"      clocks")
+}
+
+// The count; of a running counter 0 is 65,536.
+fn count_shown(c: Counter) -> u32
+    ensures { λ r. ⌜ r ≡ countShown c ⌝ }
+{
+    if c.cip & (c.count == 0) {
+        return 65536;
+    }
+    c.count as u32
+}
+
+fn half_cell(t: Text, second: bool) -> Text
+    ensures { λ r. ⌜ r ≡ typed t (halfCell second) ⌝ }
+{
+    if second {
+        return word(t, b"      second");
+    }
+    word(t, b"       first")
+}
+
+fn frozen_cell(t: Text, rcc: bool, n: u16) -> Text
+    ensures { λ r. ⌜ r ≡ typed t (frozenCell rcc n) ⌝ }
+{
+    if rcc {
+        return number_cell(t, n as u32);
+    }
+    word(t, b"           -")
+}
+
+fn counter_cell(t: Text, enabled: bool, c: Counter, row: usize) -> Text
+    ensures { λ r. ⌜ r ≡ typed t (counterCell enabled c row) ⌝ }
+{
+    match row {
+        0 => yes_cell(t, enabled),
+        1 => mode_cell(t, c.mode),
+        2 => again_cell(t, c.mode / 128 % 2 == 1),
+        3 => counts_cell(t, c.mode / 32 % 2 == 1),
+        4 => yes_cell(t, c.mode / 16 % 2 == 1),
+        5 => yes_cell(t, c.mode / 8 % 2 == 1),
+        6 => yes_cell(t, c.mode / 64 % 2 == 1),
+        7 => yes_cell(t, c.mode / 4 % 2 == 1),
+        8 => number_cell(t, c.constant as u32),
+        9 => number_cell(t, count_shown(c)),
+        10 => bit_cell(t, c.gcb),
+        11 => bit_cell(t, c.cip),
+        12 => half_cell(t, c.half),
+        13 => frozen_cell(t, c.rcc, c.frozen),
+        _ => bit_cell(t, counters::output(c)),
+    }
+}
+
+// Counter i's column.
+fn counter_column(t: Text, d: Device, i: usize, row: usize) -> Text
+    requires { ⌜ i < 3 ⌝ }
+    ensures { λ r. ⌜ r ≡ typed t (counterColumn d i row) ⌝ }
+{
+    let c = d.counters[i];
+    counter_cell(t, device::counter_on(d.config, i), c, row)
+}
+
+pub fn counter_line(d: Device, row: usize) -> Text
+    ensures { λ r. ⌜ r ≡ typed noText (counterLine d row) ⌝ }
+{
+    let t = counter_label(row);
+    let a = counter_column(t, d, 0, row);
+    let b = counter_column(a, d, 1, row);
+    push(counter_column(b, d, 2, row), b'\n')
+}

@@ -1,0 +1,98 @@
+// The ports, a fact a line: its label, and a column for each port.
+ghost use mathlib.Core.Path.{_≡_};
+ghost use Prim.Native.Nat.{_<_};
+ghost use Rattle.lines.specs.Kept.{noText, typed};
+ghost use Rattle.words.specs.Shown.{portLabel, portCell, portLine, patternLabel, patternMode, patternCell, patternLine};
+use crate::cells::bit_cell;
+use crate::cells::byte_cell;
+use crate::cells::word;
+use crate::cells::yes_cell;
+use lines::Text;
+use lines::push;
+use rules::Device;
+use rules::Pattern;
+
+fn port_label(row: usize) -> Text
+    ensures { λ r. ⌜ r ≡ typed noText (portLabel row) ⌝ }
+{
+    let t = lines::no_text();
+    match row {
+        0 => word(t, b"enabled         "),
+        1 => word(t, b"direction       "),
+        2 => word(t, b"polarity        "),
+        3 => word(t, b"special         "),
+        4 => word(t, b"output register "),
+        5 => word(t, b"pins            "),
+        _ => word(t, b"catchers        "),
+    }
+}
+
+fn port_cell(t: Text, d: Device, p: usize, row: usize) -> Text
+    requires { ⌜ p < 3 ⌝ }
+    ensures { λ r. ⌜ r ≡ typed t (portCell d p row) ⌝ }
+{
+    let q = d.ports[p];
+    match row {
+        0 => yes_cell(t, device::port_enabled(d, p)),
+        1 => byte_cell(t, q.direction),
+        2 => byte_cell(t, q.polarity),
+        3 => byte_cell(t, q.special),
+        4 => byte_cell(t, q.output),
+        5 => byte_cell(t, device::pins_at(d, p)),
+        _ => byte_cell(t, q.catcher),
+    }
+}
+
+pub fn port_line(d: Device, row: usize) -> Text
+    ensures { λ r. ⌜ r ≡ typed noText (portLine d row) ⌝ }
+{
+    let t = port_label(row);
+    let a = port_cell(t, d, 0, row);
+    let b = port_cell(a, d, 1, row);
+    push(port_cell(b, d, 2, row), b'\n')
+}
+
+fn pattern_label(row: usize) -> Text
+    ensures { λ r. ⌜ r ≡ typed noText (patternLabel row) ⌝ }
+{
+    let t = lines::no_text();
+    match row {
+        0 => word(t, b"pattern         "),
+        1 => word(t, b"  polarity      "),
+        2 => word(t, b"  transition    "),
+        3 => word(t, b"  mask          "),
+        _ => word(t, b"PMF             "),
+    }
+}
+
+fn pattern_mode(t: Text, mode: u8) -> Text
+    ensures { λ r. ⌜ r ≡ typed t (patternMode mode) ⌝ }
+{
+    match mode / 2 % 4 {
+        1 => word(t, b"         AND"),
+        2 => word(t, b"          OR"),
+        _ => word(t, b"         off"),
+    }
+}
+
+fn pattern_cell(t: Text, q: Pattern, row: usize) -> Text
+    ensures { λ r. ⌜ r ≡ typed t (patternCell q row) ⌝ }
+{
+    match row {
+        0 => pattern_mode(t, q.mode),
+        1 => byte_cell(t, q.polarity),
+        2 => byte_cell(t, q.transition),
+        3 => byte_cell(t, q.mask),
+        _ => bit_cell(t, q.pmf),
+    }
+}
+
+pub fn pattern_line(d: Device, row: usize) -> Text
+    ensures { λ r. ⌜ r ≡ typed noText (patternLine d row) ⌝ }
+{
+    let qa = d.patterns[0];
+    let qb = d.patterns[1];
+    let t = pattern_label(row);
+    let a = pattern_cell(t, qa, row);
+    push(pattern_cell(a, qb, row), b'\n')
+}
