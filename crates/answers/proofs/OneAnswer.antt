@@ -32,6 +32,8 @@ use Rattle.rules.specs.Sound.{pmfOnly, sameOf, soundOf, soundPort}
 use Rattle.rules.specs.Step.{clockOf, linesAt, ranOf, stepOf}
 use Rattle.rules.specs.declared.Answer.{Answer}
 use Rattle.rules.specs.declared.Device.{Device}
+use Rattle.words.specs.Refusals.{refusal, trouble}
+use Rattle.words.specs.Shown.{shownLine}
 use Rattle.session.specs.Sessions.{answered, answersIn, answersLast, fedBy, readOf as session·readOf, startOf}
 use Rattle.session.specs.declared.Fed.{Fed}
 use Rattle.rules.proofs.Device.fresh as rules·Device-fresh
@@ -109,6 +111,9 @@ use Rattle.lines.proofs.cut_from as lines·cut-from
 use Rattle.lines.proofs.meaning as lines·meaning
 use Rattle.lines.proofs.says as lines·says
 use Rattle.lines.proofs.event_in as lines·event-in
+use Rattle.words.proofs.line as words·line
+use Rattle.words.proofs.refusal_line as words·refusal-line
+use Rattle.words.proofs.trouble_line as words·trouble-line
 use Rattle.writing.proofs.put as writing·put
 use Rattle.writing.proofs.registers as writing·registers
 use Rattle.writing.proofs.counts as writing·counts
@@ -405,3 +410,12 @@ module _ {M : Type 1} (𝓤 : URA M) where
 
   pub reading-lines-clear : OneResult 𝓤 reading·lines-clear.ended (reading·lines-clear.clauses 𝓤)
   reading-lines-clear = one-result 𝓤 reading·lines-clear.ended (reading·lines-clear.clauses 𝓤) (λ κs a. linesClear (now (a .0))) refl
+
+  pub words-line : OneResult 𝓤 words·line.ended (words·line.clauses 𝓤)
+  words-line = one-result 𝓤 words·line.ended (words·line.clauses 𝓤) (λ κs a. typed noText (shownLine (a .0) (a .1 .0))) refl
+
+  pub words-refusal-line : OneResult 𝓤 words·refusal-line.ended (words·refusal-line.clauses 𝓤)
+  words-refusal-line = one-result 𝓤 words·refusal-line.ended (words·refusal-line.clauses 𝓤) (λ κs a. typed noText (refusal (a .0) (a .1 .0))) refl
+
+  pub words-trouble-line : OneResult 𝓤 words·trouble-line.ended (words·trouble-line.clauses 𝓤)
+  words-trouble-line = one-result 𝓤 words·trouble-line.ended (words·trouble-line.clauses 𝓤) (λ κs a. typed noText (trouble (a .0) (a .1 .0))) refl
