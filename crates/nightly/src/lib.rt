@@ -1,11 +1,11 @@
 // The night: a device restored from an image file, a trace run on it, and the device saved again.
 mod files;
-mod running;
 
 pub use files::keep;
 pub use files::load;
 use lines::Text;
 use rules::Device;
+use session::Session;
 
 // A device, and whether there is one; where not, a line has said why.
 pub struct Loaded {
@@ -41,6 +41,22 @@ pub fn show(path: &[u8], out: i32, report: i32) {
     show_all(d, out);
 }
 
+// The device after the trace of a descriptor, and whether all answers are written.
+fn run(d: Device, input: i32, answers: i32) -> Loaded {
+    let s = Session {
+        device: d,
+        text: lines::no_text(),
+    };
+    let all = running::run(s, input, answers);
+    let last = running::run_last(all.session, answers);
+    let t = last.session;
+    let e = t.device;
+    Loaded {
+        device: e,
+        ok: all.ok & last.ok,
+    }
+}
+
 // Restores the device of one image file, runs the trace of a descriptor on it, and saves the device to another image
 // file, which may be the same. Answers whether it is saved; where not, a line has said why.
 pub fn night(from: &[u8], to: &[u8], input: i32, answers: i32, report: i32) -> bool {
@@ -51,8 +67,7 @@ pub fn night(from: &[u8], to: &[u8], input: i32, answers: i32, report: i32) -> b
     if !files::can_keep(to, report) {
         return false;
     }
-    let d = l.device;
-    let r = running::run(d, input, answers);
+    let r = run(l.device, input, answers);
     if !r.ok {
         io::write_all(report, b"the answers cannot be written\n");
         return false;

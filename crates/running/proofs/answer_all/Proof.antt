@@ -3,8 +3,8 @@
 use mathlib.Core.Path.{_≡_, refl, _∙_}
 use native.Mathlib.Omega.{arith}
 use lib.ListN.{length}
-use Rattle.nightly.proofs.running.answer_all.Statement.{statement}
-use Rattle.nightly.proofs.running.answer_all.Tie as tie
+use Rattle.running.proofs.answer_all.Statement.{statement}
+use Rattle.running.proofs.answer_all.Tie as tie
 
 abbrev Inv-loop : tie.InvT-loop
 Inv-loop input read₀ out₀ answers t₀ turns₀ read out t turns = (length read ≡ length read₀) × (length out ≡ length out₀)

@@ -8,8 +8,8 @@ use lib.Seq.{length-take-le}
 use denote.Ref.{now}
 use Rattle.session.proofs.Feeding.{feeds-on}
 use Rattle.session.specs.declared.Fed.{Fed}
-use Rattle.nightly.proofs.running.answer_piece.Statement.{statement}
-use Rattle.nightly.proofs.running.answer_piece.Tie as tie
+use Rattle.running.proofs.answer_piece.Statement.{statement}
+use Rattle.running.proofs.answer_piece.Tie as tie
 
 abbrev Inv-loop : tie.InvT-loop
 Inv-loop piece out₀ answers t₀ at₀ out t at = length out ≡ length out₀

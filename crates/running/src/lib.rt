@@ -1,16 +1,14 @@
-// A trace run on a device, as the trace program runs it.
+// The lines of a descriptor, answered on another as they arrive.
 ghost use Prim.Native.Nat.{_≤_};
 ghost use lib.ListN.{length};
 ghost use Rattle.lines.specs.Kept.{most};
-use crate::Loaded;
-use rules::Device;
 use session::Session;
 
 // A session, whether to go on, and whether all answers are written.
-struct Turn {
-    session: Session,
-    more: bool,
-    ok: bool,
+pub struct Turn {
+    pub session: Session,
+    pub more: bool,
+    pub ok: bool,
 }
 
 // Answers the lines of a piece, and writes the answers out whenever the buffer may be full, and at the end of the piece.
@@ -81,10 +79,15 @@ fn answer_all(s: Session, input: i32, read: &mut [u8], out: &mut [u8], answers: 
     }
 }
 
+// Answers the lines of an input, as they arrive. What is left of a last line without a line feed is in the session.
+pub fn run(s: Session, input: i32, answers: i32) -> Turn {
+    let mut read = io::large_buffer();
+    let mut out = io::large_buffer();
+    answer_all(s, input, &mut read, &mut out, answers)
+}
+
 // "the last line feed may be missing": a last line without one is said as if it had it.
-fn answer_last(s: Session, out: &mut [u8], answers: i32) -> Turn
-    requires { ⌜ most ≤ length (now out) ⌝ }
-{
+pub fn run_last(s: Session, answers: i32) -> Turn {
     let t = s.text;
     if t.len == 0 {
         return Turn {
@@ -93,31 +96,6 @@ fn answer_last(s: Session, out: &mut [u8], answers: i32) -> Turn
             ok: true,
         };
     }
-    answer_piece(s, b"\n", out, answers)
-}
-
-// The device after the trace, and whether all answers are written.
-pub fn run(d: Device, input: i32, answers: i32) -> Loaded {
-    let mut read = io::large_buffer();
-    let mut out = io::large_buffer();
-    let s = Session {
-        device: d,
-        text: lines::no_text(),
-    };
-    let r = answer_all(s, input, &mut read, &mut out, answers);
-    let t = r.session;
-    if !r.ok {
-        let e = t.device;
-        return Loaded {
-            device: e,
-            ok: false,
-        };
-    }
-    let l = answer_last(t, &mut out, answers);
-    let u = l.session;
-    let e = u.device;
-    Loaded {
-        device: e,
-        ok: l.ok,
-    }
+    let mut out = io::buffer();
+    answer_piece(s, b"\n", &mut out, answers)
 }
