@@ -199,8 +199,8 @@ pub fn enable(v: bool, c: Counter) -> Counter
     if v {
         return c;
     }
-    let mut e = c;
-    e.cip = false;
-    e.half = false;
-    e
+    let mut off = c;
+    off.cip = false;
+    off.half = false;
+    off
 }

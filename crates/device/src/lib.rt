@@ -1,10 +1,11 @@
 // What the ports of a device show: the values put out, pins, path values, data, and the lines of the counters.
 ghost use mathlib.Core.Path.{_≡_};
-ghost use Prim.Native.Nat.{_<_};
+ghost use Rattle.rules.specs.Record.{portAt};
 ghost use Rattle.rules.specs.Registers.{portEnabled, counterOn};
 ghost use Rattle.rules.specs.PortData.{valueAt, pinsAt, pathAt, seenAt, dataAt};
 ghost use Rattle.rules.specs.Step.{linesAt};
 use rules::Device;
+use rules::Port;
 
 pub fn port_enabled(d: Device, p: usize) -> bool
     ensures { λ r. ⌜ r ≡ portEnabled d p ⌝ }
@@ -20,7 +21,6 @@ pub fn port_enabled(d: Device, p: usize) -> bool
 
 // Whether a configuration enables counter i.
 pub fn counter_on(config: u8, i: usize) -> bool
-    requires { ⌜ i < 3 ⌝ }
     ensures { λ r. ⌜ r ≡ counterOn config i ⌝ }
 {
     if i == 0 {
@@ -32,12 +32,29 @@ pub fn counter_on(config: u8, i: usize) -> bool
     config / 16 % 2 == 1
 }
 
+// Port p: A, B, C, and past them one at rest.
+fn port_at(d: Device, p: usize) -> Port
+    ensures { λ r. ⌜ r ≡ portAt d p ⌝ }
+{
+    if p < 3 {
+        return d.ports[p];
+    }
+    Port {
+        polarity: 0,
+        direction: 0,
+        special: 0,
+        output: 0,
+        outside: 0,
+        catcher: 0,
+    }
+}
+
 // The value that port p puts out.
 fn value_at(d: Device, p: usize) -> u8
-    requires { ⌜ p < 3 ⌝ }
     ensures { λ r. ⌜ r ≡ valueAt d p ⌝ }
 {
-    let x = d.ports[p].output;
+    let q = port_at(d, p);
+    let x = q.output;
     if p == 0 {
         return x;
     }
@@ -51,36 +68,32 @@ fn value_at(d: Device, p: usize) -> u8
 }
 
 pub fn pins_at(d: Device, p: usize) -> u8
-    requires { ⌜ p < 3 ⌝ }
     ensures { λ r. ⌜ r ≡ pinsAt d p ⌝ }
 {
-    let q = d.ports[p];
+    let q = port_at(d, p);
     ports::pins(port_enabled(d, p), q, value_at(d, p))
 }
 
 pub fn path_at(d: Device, p: usize) -> u8
-    requires { ⌜ p < 3 ⌝ }
     ensures { λ r. ⌜ r ≡ pathAt d p ⌝ }
 {
-    let q = d.ports[p];
+    let q = port_at(d, p);
     let v = value_at(d, p);
     ports::path(q, ports::pins(port_enabled(d, p), q, v), v)
 }
 
 pub fn seen_at(d: Device, p: usize) -> u8
-    requires { ⌜ p < 3 ⌝ }
     ensures { λ r. ⌜ r ≡ seenAt d p ⌝ }
 {
-    let q = d.ports[p];
+    let q = port_at(d, p);
     ports::seen(port_enabled(d, p), q, path_at(d, p))
 }
 
 pub fn data_at(d: Device, p: usize) -> u8
-    requires { ⌜ p < 3 ⌝ }
     ensures { λ r. ⌜ r ≡ dataAt d p ⌝ }
 {
     if p == 2 {
-        let q = d.ports[p];
+        let q = port_at(d, p);
         return ports::seen(port_enabled(d, p), q, ports::level(q, pins_at(d, p)));
     }
     seen_at(d, p)
@@ -88,7 +101,6 @@ pub fn data_at(d: Device, p: usize) -> u8
 
 // The four lines of counter i.
 pub fn lines_at(d: Device, i: usize) -> u8
-    requires { ⌜ i < 3 ⌝ }
     ensures { λ r. ⌜ r ≡ linesAt d i ⌝ }
 {
     if i == 0 {

@@ -87,7 +87,7 @@ fn on_write(d: Device, e: Event) -> Outcome
     if registers::is_later(k, b as u8) {
         return refused(4, d);
     }
-    let s = step::step(false, d, access::write(d, k, b as u8));
+    let s = step::step(false, d, write_access::write(d, e.a, b as u8));
     accepted(s.device, 0)
 }
 
@@ -101,8 +101,7 @@ fn on_read(d: Device, e: Event) -> Outcome
     if (d.master % 2 == 1) & (e.a != 0) {
         return accepted(d, 0);
     }
-    let k = registers::kind_of(e.a);
-    accepted(access::after_read(d, k), access::read(d, k))
+    accepted(read_access::after_read(d, e.a), read_access::read(d, e.a))
 }
 
 // Other outside levels.
@@ -163,7 +162,7 @@ fn on_acknowledge(d: Device, e: Event) -> Outcome
 {
     let k = interrupts::requester_of(d);
     if k < 5 {
-        let v = interrupts::acknowledge_by(d, k);
+        let v = interrupts::acknowledge(d);
         let s = sources::serve(d.sources[k]);
         let mut after = d;
         after.sources[k] = s;

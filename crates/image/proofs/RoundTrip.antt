@@ -1,5 +1,5 @@
 -- Save and restore undo each other: no count, half, hidden error, catcher, phase or frozen count is lost on the way.
--- `saveCode`, `savedOf` and `restoredOf` are what the calls `save` and `restore` promise to answer; `Fits` is what every record of the
+-- `saveCode`, `savedOf` and `restoredOf` are what the calls `save` and `restore` promise to answer; `Shaped` is what every record of the
 -- device's struct has, its arrays' lengths, and `Bytes` what every slice of bytes has.
 -- Assumes nothing.
 use Prim.Native.Nat.{ℕ}
@@ -9,16 +9,16 @@ use mathlib.Core.List.{List}
 use borrow.Author.Tests.{eq-eqb, ne-eqb}
 use lib.ListN.{length, take, drop}
 use Rattle.rules.specs.declared.Device.{Device}
-use Rattle.rules.specs.Record.{imageLen, freshOf}
+use Rattle.rules.specs.Record.{Shaped, imageLen, freshOf}
 use Rattle.rules.specs.Sound.{soundOf}
 use Rattle.bodies.specs.Taken.{Bytes}
-use Rattle.image.specs.Image.{contents, imageOf, deviceIn, agree, saveCode, savedOf, restoredOf, Fits}
+use Rattle.image.specs.Image.{contents, imageOf, deviceIn, agree, saveCode, savedOf, restoredOf}
 use Rattle.image.proofs.Agree.{itself}
-use Rattle.image.proofs.Whole.{image-length, image-contents, image-clear, read-back, written-back, fits}
+use Rattle.image.proofs.Whole.{image-length, image-contents, image-clear, read-back, written-back, shaped}
 use Rattle.image.proofs.Answers.{accepted, fresh, saved-sound, saved-image, rest}
 
 -- a sound record's image restores to that very record
-pub restored-image : (d : Device) → Fits d → soundOf d ≡ true → restoredOf (imageOf d) ≡ record { code = 0; device = d }
+pub restored-image : (d : Device) → Shaped d → soundOf d ≡ true → restoredOf (imageOf d) ≡ record { code = 0; device = d }
 unfolding restoredOf
 restored-image d f s =
     let long = eq-eqb (length (imageOf d)) imageLen (image-length d) in
@@ -26,7 +26,7 @@ restored-image d f s =
     simp (long, table, image-clear d, read-back d f, s)
 
 -- restoring what save wrote gives code 0 and that very record
-pub restored-saved : (d : Device) (e : List ℕ) → Fits d → saveCode d (length e) ≡ 0
+pub restored-saved : (d : Device) (e : List ℕ) → Shaped d → saveCode d (length e) ≡ 0
     → restoredOf (take imageLen (savedOf d e)) ≡ record { code = 0; device = d }
 restored-saved d e f h = ap restoredOf (saved-image d e h) ∙ restored-image d f (saved-sound d (length e) h)
 
@@ -39,11 +39,11 @@ accepted-written s b h =
 pub accepted-sound : (s : List ℕ) → restoredOf s .code ≡ 0 → soundOf (restoredOf s .device) ≡ true
 accepted-sound s h = let a = accepted s h in ap soundOf (a .is) ∙ a .sound
 
-pub accepted-fits : (s : List ℕ) → restoredOf s .code ≡ 0 → Fits (restoredOf s .device)
-accepted-fits s h = subst Fits (sym (accepted s h .is)) (fits s)
+pub accepted-shaped : (s : List ℕ) → restoredOf s .code ≡ 0 → Shaped (restoredOf s .device)
+accepted-shaped s h = subst Shaped (sym (accepted s h .is)) (shaped s)
 
 -- two records that save to one image are equal
-pub one-record : (d e : Device) → Fits d → Fits e → imageOf d ≡ imageOf e → d ≡ e
+pub one-record : (d e : Device) → Shaped d → Shaped e → imageOf d ≡ imageOf e → d ≡ e
 one-record d e f g h = sym (read-back d f) ∙ ap deviceIn h ∙ read-back e g
 
 -- a refused restore gives the fresh device

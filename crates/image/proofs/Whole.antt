@@ -13,7 +13,7 @@ use Rattle.rules.specs.declared.Source.{Source}
 use Rattle.rules.specs.declared.Port.{Port}
 use Rattle.rules.specs.declared.Pattern.{Pattern}
 use Rattle.rules.specs.declared.Device.{Device}
-use Rattle.rules.specs.Record.{imageLen, bare, blank, idle, quiet}
+use Rattle.rules.specs.Record.{Shaped, imageLen, bare, blank, idle, quiet}
 use Rattle.bodies.specs.Written.{registersFrom, registersOf, countsOf, pinsOf, linesOf}
 use Rattle.bodies.specs.Taken.{Bytes, registersIn, countsIn, pinsIn, linesIn, registersClear, countsClear, pinsClear, linesClear}
 use Rattle.bodies.proofs.Bytes.{both}
@@ -22,7 +22,7 @@ use Rattle.bodies.proofs.RegistersLaw.{registersTold, registers-read, registers
 use Rattle.bodies.proofs.CountsLaw.{countsTold, counts-read, counts-written, counts-clear, counts-apart}
 use Rattle.bodies.proofs.PinsLaw.{pinsTold, pins-read, pins-written, pins-clear, pins-apart-1, pins-apart-2}
 use Rattle.bodies.proofs.LinesLaw.{linesTold, lines-read, lines-written, lines-clear, lines-apart-1, lines-apart-2, lines-apart-3}
-use Rattle.image.specs.Image.{contents, imageOf, part, deviceIn, clearIn, Fits}
+use Rattle.image.specs.Image.{contents, imageOf, part, deviceIn, clearIn}
 
 -- ---- an image has 84 bytes, the contents first, and each body at its place
 pub image-length : (d : Device) → length (imageOf d) ≡ imageLen
@@ -58,7 +58,7 @@ image-clear d =
     (ap linesClear (part-4 d) ∙ lines-clear d)
 
 -- ---- the four bodies tell the whole record
-all-told : (d : Device) → Fits d → linesTold (pinsTold (countsTold (registersTold d) d) d) d ≡ d
+all-told : (d : Device) → Shaped d → linesTold (pinsTold (countsTold (registersTold d) d) d) d ≡ d
 all-told d f =
     ap₃ (λ (vs : List ℕ) (ps : List Port) (qs : List Pattern).
     record {
@@ -88,7 +88,7 @@ all-told d f =
     (three idle (d .counters) (f .counters)) (five quiet (d .sources) (f .sources))
 
 -- what was written is read back
-pub read-back : (d : Device) → Fits d → deviceIn (imageOf d) ≡ d
+pub read-back : (d : Device) → Shaped d → deviceIn (imageOf d) ≡ d
 unfolding deviceIn
 read-back d f =
     (simp (part-1 d, part-2 d, part-3 d, part-4 d))
@@ -99,9 +99,9 @@ read-back d f =
     ∙ all-told d f
 
 -- a record that was read has the lengths of the struct
-pub fits : (s : List ℕ) → Fits (deviceIn s)
+pub shaped : (s : List ℕ) → Shaped (deviceIn s)
 unfolding deviceIn linesIn pinsIn countsIn registersIn
-fits s = record { vectors = refl; ports = refl; patterns = refl; counters = refl; sources = refl }
+shaped s = record { vectors = refl; ports = refl; patterns = refl; counters = refl; sources = refl }
 
 -- ---- parts of a list of bytes
 bytes-take : (n : ℕ) (s : List ℕ) → Bytes s → Bytes (take n s)

@@ -2,7 +2,6 @@
 -- The four bodies, and the table of what each says of the record, are in the specs of `bodies`.
 -- Assumes nothing.
 use Prim.Native.Nat.{ℕ, _/_, _%_}
-use mathlib.Core.Path.{_≡_}
 use mathlib.Core.Bool.{Bool, true, false, _&&_, cond}
 use mathlib.Core.List.{List, [], _∷_, _++_}
 use lib.Dec.{eqb, leb}
@@ -64,11 +63,3 @@ restoredOf s =
     (cond (clearIn s && soundOf (deviceIn s)) (record { code = 0; device = deviceIn s }) (refused 9))
     (refused 8))
     (refused 7)
-
--- ---- the records that there are: the arrays have the lengths that the struct gives them
-pub record Fits (d : Device) : Type 0 where
-  pub vectors : length (d .vectors) ≡ 3
-  pub ports : length (d .ports) ≡ 3
-  pub patterns : length (d .patterns) ≡ 2
-  pub counters : length (d .counters) ≡ 3
-  pub sources : length (d .sources) ≡ 5

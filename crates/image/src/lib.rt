@@ -38,11 +38,11 @@ fn write(d: Device, buf: &mut [u8])
     ensures { λ _. ⌜ now (buf .exit) ≡ imageOf d ++ drop imageLen (now (buf .entry)) ⌝ }
 {
     let c = CONTENTS;
-    writing::put(buf, 0, &c);
-    writing::put(buf, 18, &writing::registers(d));
-    writing::put(buf, 66, &writing::counts(d));
-    writing::put(buf, 75, &writing::pins(d));
-    writing::put(buf, 82, &writing::lines(d));
+    bits::lay(buf, 0, &c);
+    bits::lay(buf, 18, &writing::registers(d));
+    bits::lay(buf, 66, &writing_rest::counts(d));
+    bits::lay(buf, 75, &writing_rest::pins(d));
+    bits::lay(buf, 82, &writing_rest::lines(d));
 }
 
 // Saves a record into the first 84 bytes of a buffer. Codes: 9 for a record that is not sound, 7 for a buffer
@@ -64,10 +64,10 @@ fn is_clear(s: &[u8]) -> bool
     requires { ⌜ length (now s) ≡ imageLen ⌝ }
     ensures { λ r. ⌜ r ≡ clearIn (now (s .entry)) ⌝ }
 {
-    reading::registers_clear(&s[18..66])
-        & reading::counts_clear(&s[66..75])
-        & reading::pins_clear(&s[75..82])
-        & reading::lines_clear(&s[82..84])
+    unused::registers_clear(&s[18..66])
+        & unused::counts_clear(&s[66..75])
+        & unused::pins_clear(&s[75..82])
+        & unused::lines_clear(&s[82..84])
 }
 
 fn read(s: &[u8]) -> Device
@@ -75,9 +75,9 @@ fn read(s: &[u8]) -> Device
     ensures { λ r. ⌜ r ≡ deviceIn (now (s .entry)) ⌝ }
 {
     let registers = reading::read_registers(&s[18..66]);
-    let counts = reading::read_counts(registers, &s[66..75]);
-    let pins = reading::read_pins(counts, &s[75..82]);
-    reading::read_lines(pins, &s[82..84])
+    let counts = reading_rest::read_counts(registers, &s[66..75]);
+    let pins = reading_rest::read_pins(counts, &s[75..82]);
+    reading_rest::read_lines(pins, &s[82..84])
 }
 
 fn refuse(code: u8) -> Restored

@@ -1,9 +1,8 @@
 // The five sources of a device: who requests, the lines INT and IEO, and vectors.
 ghost use mathlib.Core.Path.{_≡_};
-ghost use mathlib.Core.Bool.{cond};
 ghost use Prim.Native.Nat.{_<_, _≤_};
-ghost use Rattle.rules.specs.Registers.{nv};
-ghost use Rattle.rules.specs.Interrupts.{served, pending, requests, requester, intOf, ieoOf, withStatus, vectorFor, pendingCounter, vectorRead, currentVector};
+ghost use Rattle.rules.specs.Record.{vectorAt};
+ghost use Rattle.rules.specs.Interrupts.{served, pending, requests, requester, intOf, ieoOf, withStatus, vectorFor, acknowledge, pendingCounter, vectorRead, currentVector};
 use rules::Device;
 
 fn served_at(d: Device, k: usize) -> bool
@@ -106,15 +105,18 @@ fn vector_for(d: Device, k: usize) -> u8
     d.vectors[2]
 }
 
-// The value of an acknowledge by source k.
-pub fn acknowledge_by(d: Device, k: usize) -> u8
-    requires { ⌜ k < 5 ⌝ }
-    ensures { λ r. ⌜ r ≡ cond (nv d) 0 (vectorFor d k) ⌝ }
+// The value of an acknowledge.
+pub fn acknowledge(d: Device) -> u8
+    ensures { λ r. ⌜ r ≡ acknowledge d ⌝ }
 {
+    let k = requester_of(d);
     if d.master / 32 % 2 == 1 {
         return 0;
     }
-    vector_for(d, k)
+    if k < 5 {
+        return vector_for(d, k);
+    }
+    0
 }
 
 fn pending_counter(d: Device) -> usize
@@ -129,12 +131,21 @@ fn pending_counter(d: Device) -> usize
     )
 }
 
+// Vector v: A, B, CT, and past them 0.
+fn vector_at(d: Device, v: usize) -> u8
+    ensures { λ r. ⌜ r ≡ vectorAt d v ⌝ }
+{
+    if v < 3 {
+        return d.vectors[v];
+    }
+    0
+}
+
 // What a vector register reads.
 pub fn vector_read(d: Device, v: usize) -> u8
-    requires { ⌜ v < 3 ⌝ }
     ensures { λ r. ⌜ r ≡ vectorRead d v ⌝ }
 {
-    let base = d.vectors[v];
+    let base = vector_at(d, v);
     if !(d.master / 128 % 2 == 1) {
         return base;
     }

@@ -11,8 +11,8 @@ use borrow.Author.Tests.{lt-ltb, le-ltb, le-leb, ne-eqb, ltb-true, ltb-false}
 use lib.Dec.{eqb, ltb, leb, lit<}
 use lib.ListN.{length}
 use Rattle.lines.specs.Lines.{digitOf, numberOf, decimal, valueOf, clocksIn, plain, clocksOf, wordsOf, lineOf, said}
-use Rattle.lines.specs.Answers.{glyphOf, placeText, decimalText}
-use Rattle.lines.proofs.Printed.{decimal-short}
+use Rattle.texts.specs.Answers.{glyphOf, placeText, decimalText}
+use Rattle.texts.proofs.Printed.{decimal-short}
 
 -- ---- digits
 decimal-digit : (d : ℕ) → d < 10 → digitOf (48 + d) ≡ d

@@ -11,11 +11,11 @@ use borrow.Author.Tests.{eq-eqb, ne-eqb}
 use lib.Dec.{eqb}
 use lib.ListN.{length, getD, take, drop, drop-of-length-le}
 use lib.Seq.{drop-cons}
-use Rattle.lines.specs.Kept.{noText, pushed}
+use Rattle.texts.specs.Kept.{noText, pushed}
 use Rattle.lines.specs.Lines.{saysOf}
 use Rattle.lines.specs.Pieces.{lineLen, cutFrom, saidIn, keptAfter}
 use Rattle.lines.specs.declared.Cut.{Cut}
-use Rattle.lines.specs.declared.Text.{Text}
+use Rattle.texts.specs.declared.Text.{Text}
 
 -- from place i
 module _ (t : Text) (i : ℕ) (l : List ℕ) (h : i < length l) where

@@ -7,7 +7,7 @@ use mathlib.Core.List.{List, [], _∷_}
 use Rattle.rules.specs.declared.Answer.{Answer}
 use Rattle.lines.specs.declared.Line.{Line}
 use Rattle.lines.specs.declared.Line.the-variants.{Unreadable}
-use Rattle.lines.specs.Answers.{glyphOf, hexText, nibbleText, flagText, placeText, decimalText, countText, answerText}
+use Rattle.texts.specs.Answers.{glyphOf, hexText, nibbleText, flagText, placeText, decimalText, countText, answerText}
 use Rattle.lines.specs.Lines.{said, digitOf, numberOf, numbersOf, saidBy, decimal, valueOf, clocksIn, plain, clocksOf, wordsOf, lineOf}
 
 -- a line and what it says

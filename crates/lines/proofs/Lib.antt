@@ -1,10 +1,8 @@
-pub mod Typing
-pub mod Laying
 pub mod Digits
 pub mod Words
+pub mod Said
 pub mod Cutting
-pub mod Keeping
+pub mod Saying
 pub mod Whole
-pub mod Printed
 pub mod Back
 pub mod Examples

@@ -6,13 +6,14 @@ use mathlib.Core.List.{List, [], _∷_, _++_, map, append-assoc}
 use mathlib.Core.Path.{_≡_, refl, sym, ap, _∙_}
 use borrow.Author.Tests.{ne-eqb}
 use lib.Dec.{eqb}
-use Rattle.lines.specs.Kept.{noText, pushed, typed}
+use Rattle.texts.specs.Kept.{noText, pushed, typed}
 use Rattle.lines.specs.Lines.{lineOf, saysOf}
 use Rattle.lines.specs.Pieces.{lastOf, linesFrom, linesOf, saidIn, keptAfter, saidLast, saidAll, joined}
 use Rattle.lines.specs.declared.Line.{Line}
-use Rattle.lines.specs.declared.Text.{Text}
-use Rattle.lines.proofs.Keeping.{says-line, some-kept}
-use Rattle.lines.proofs.Typing.{typed-append}
+use Rattle.texts.specs.declared.Text.{Text}
+use Rattle.texts.proofs.Keeping.{some-kept}
+use Rattle.lines.proofs.Saying.{says-line}
+use Rattle.texts.proofs.Typing.{typed-append}
 
 -- ---- two pieces are one
 pub kept-append : (t : Text) (p q : List ℕ) → keptAfter t (p ++ q) ≡ keptAfter (keptAfter t p) q

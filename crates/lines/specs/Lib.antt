@@ -1,4 +1,2 @@
-pub mod Kept
 pub mod Lines
 pub mod Pieces
-pub mod Answers

@@ -8,10 +8,10 @@ use mathlib.Core.List.{List, [], _∷_}
 use lib.Dec.{eqb, leb, ltb}
 use lib.ListN.{length}
 use Rattle.rules.specs.declared.Event.{Event}
-use Rattle.lines.specs.Kept.{most, bytesOf}
+use Rattle.texts.specs.Kept.{most, bytesOf}
 use Rattle.lines.specs.declared.Line.the-variants.{Said, Unreadable}
 use Rattle.lines.specs.declared.Line.{Line}
-use Rattle.lines.specs.declared.Text.{Text}
+use Rattle.texts.specs.declared.Text.{Text}
 
 abbrev pub said : ℕ → ℕ → ℕ → ℕ → Line
 said kind a b c = Said (record { kind = kind; a = a; b = b; c = c })

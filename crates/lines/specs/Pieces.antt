@@ -5,11 +5,11 @@ use Prim.Native.Nat.{ℕ, suc}
 use mathlib.Core.Bool.{true, false, cond}
 use mathlib.Core.List.{List, [], _∷_, _++_}
 use lib.Dec.{eqb}
-use Rattle.lines.specs.Kept.{noText, pushed}
+use Rattle.texts.specs.Kept.{noText, pushed}
 use Rattle.lines.specs.Lines.{saysOf}
 use Rattle.lines.specs.declared.Cut.{Cut}
 use Rattle.lines.specs.declared.Line.{Line}
-use Rattle.lines.specs.declared.Text.{Text}
+use Rattle.texts.specs.declared.Text.{Text}
 
 -- ---- an input as a whole
 -- a last line with no line feed, where there is one

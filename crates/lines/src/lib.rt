@@ -1,27 +1,13 @@
-// The lines of a trace: cut from an input that comes in pieces, read as events, and written as answers.
-mod answers;
-mod kept;
+// The lines of a trace: cut from an input that comes in pieces, and read as events.
 mod pieces;
 mod reading;
 
-pub use answers::answer_text;
-pub use answers::lay;
-pub use kept::no_text;
-pub use kept::push;
 pub use pieces::cut_from;
 pub use reading::event_in;
 pub use reading::meaning;
 pub use reading::says;
 use rules::Event;
-
-// The most bytes of a line.
-pub const MOST: usize = 80;
-
-// The bytes of a line, its first `len`; a `len` above MOST says that it has more than MOST.
-pub struct Text {
-    pub bytes: [u8; 80],
-    pub len: usize,
-}
+use texts::Text;
 
 // What a line says.
 pub enum Line {

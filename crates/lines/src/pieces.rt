@@ -3,8 +3,8 @@ ghost use mathlib.Core.Path.{_≡_};
 ghost use lib.ListN.{drop};
 ghost use Rattle.lines.specs.Pieces.{cutFrom};
 use crate::Cut;
-use crate::Text;
-use crate::kept::push;
+use texts::Text;
+use texts::push;
 
 // From a place in a piece to the end of a line, which may have begun in a piece before.
 pub fn cut_from(t: Text, piece: &[u8], at: usize) -> Cut

@@ -5,9 +5,9 @@ ghost use Prim.Native.Nat.{_+_, _≤_, _<_};
 ghost use lib.ListN.{length, drop, getD};
 ghost use Rattle.lines.specs.Lines.{said as saidOf, digitOf, numberOf, saidBy, clocksIn, clocksOf, lineOf, saysOf, eventIn};
 use crate::Line;
-use crate::MOST;
-use crate::Text;
 use rules::Event;
+use texts::MOST;
+use texts::Text;
 
 fn said(kind: u32, a: u32, b: u32, c: u32) -> Line
     ensures { λ r. ⌜ r ≡ saidOf kind a b c ⌝ }

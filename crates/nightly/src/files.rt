@@ -2,9 +2,9 @@
 // disk, and then takes its name.
 ghost use Rattle.io.specs.Counts.{Counts};
 use crate::Loaded;
-use crate::print;
-use lines::Text;
+use printing::print;
 use rules::Device;
+use texts::Text;
 
 // A line that begins with the file's name.
 fn say(report: i32, path: &[u8], t: Text) {
@@ -35,7 +35,7 @@ fn why(error: i32) -> usize {
 // What the call before this one failed at.
 pub fn trouble(report: i32, path: &[u8], writing: bool) {
     let error = os::errno();
-    say(report, path, words::trouble_line(writing, why(error)));
+    say(report, path, phrases::trouble_line(writing, why(error)));
 }
 
 fn none() -> Loaded {
@@ -69,7 +69,7 @@ fn restore_from(fd: i32, path: &[u8], report: i32) -> Loaded {
     }
     let r = image::restore(&buf[..n]);
     if r.code != 0 {
-        say(report, path, words::refusal_line(r.code, n));
+        say(report, path, phrases::refusal_line(r.code, n));
         return none();
     }
     let d = r.device;
@@ -186,7 +186,7 @@ pub fn keep(path: &[u8], d: Device, report: i32) -> bool {
     let mut image = [0u8; Device::IMAGE_LEN];
     let code = image::save(d, &mut image);
     if code != 0 {
-        say(report, path, words::refusal_line(code, 84));
+        say(report, path, phrases::refusal_line(code, 84));
         return false;
     }
     replace(path, report, &image)

@@ -3,7 +3,7 @@ mod files;
 
 pub use files::keep;
 pub use files::load;
-use lines::Text;
+use printing::print;
 use rules::Device;
 use session::Session;
 
@@ -11,16 +11,6 @@ use session::Session;
 pub struct Loaded {
     pub device: Device,
     pub ok: bool,
-}
-
-// Writes a text out.
-fn print(fd: i32, t: Text) -> bool {
-    let n = t.len;
-    if lines::MOST < n {
-        return false;
-    }
-    let b = t.bytes;
-    io::write_all(fd, &b[..n])
 }
 
 fn show_all(d: Device, out: i32) {
@@ -45,7 +35,7 @@ pub fn show(path: &[u8], out: i32, report: i32) {
 fn run(d: Device, input: i32, answers: i32) -> Loaded {
     let s = Session {
         device: d,
-        text: lines::no_text(),
+        text: texts::no_text(),
     };
     let all = running::run(s, input, answers);
     let last = running::run_last(all.session, answers);

@@ -5,7 +5,6 @@ ghost use mathlib.Core.Bool.{cond};
 ghost use Rattle.rules.specs.Record.{freshOf};
 ghost use Rattle.rules.specs.Sound.{soundOf};
 use libc::STDOUT_FILENO;
-use rules::Answer;
 use rules::Device;
 use rules::Event;
 
@@ -49,25 +48,6 @@ const TRACE: [[u32; 4]; EVENTS] = [
     [4, 4294967295, 0, 0],
 ];
 
-fn print_next(n: u32) {
-    io::write_all(STDOUT_FILENO, b" ");
-    io::print_decimal(STDOUT_FILENO, n as u64);
-}
-
-fn print_answer(a: Answer) {
-    io::print_decimal(STDOUT_FILENO, a.code as u64);
-    print_next(a.value as u32);
-    print_next(a.a as u32);
-    print_next(a.b as u32);
-    print_next(a.c as u32);
-    print_next(a.int as u32);
-    print_next(a.ieo as u32);
-    print_next(a.terminals[0]);
-    print_next(a.terminals[1]);
-    print_next(a.terminals[2]);
-    io::write_all(STDOUT_FILENO, b"\n");
-}
-
 // One event of the trace, with its answer printed.
 fn step(d: Device, i: usize) -> Device {
     if i >= EVENTS {
@@ -82,7 +62,7 @@ fn step(d: Device, i: usize) -> Device {
     };
     let o = event::event(d, e);
     let a = o.answer;
-    print_answer(a);
+    printing::print(STDOUT_FILENO, texts::answer_text(a));
     o.device
 }
 

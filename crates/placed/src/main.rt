@@ -1,7 +1,6 @@
 // A trace through the call that alters a device where it stands, beside the same trace through the call that hands a
-// record back. Each line: the answer in place, the answer by value, and 1 where the two records are the same.
+// record back. Three lines for each event: the answer in place, the answer by value, and 1 where the two records are the same.
 use libc::STDOUT_FILENO;
-use rules::Answer;
 use rules::Device;
 use rules::Event;
 
@@ -74,25 +73,6 @@ struct Pair {
     handed: Device,
 }
 
-fn print_next(n: u32) {
-    io::print_decimal(STDOUT_FILENO, n as u64);
-    io::write_all(STDOUT_FILENO, b" ");
-}
-
-fn print_answer(a: Answer) {
-    print_next(a.code as u32);
-    print_next(a.value as u32);
-    print_next(a.a as u32);
-    print_next(a.b as u32);
-    print_next(a.c as u32);
-    print_next(a.int as u32);
-    print_next(a.ieo as u32);
-    print_next(a.terminals[0]);
-    print_next(a.terminals[1]);
-    print_next(a.terminals[2]);
-    io::write_all(STDOUT_FILENO, b"| ");
-}
-
 fn print_same(d: Device, e: Device) {
     if record::same(d, e) {
         io::write_all(STDOUT_FILENO, b"1\n");
@@ -119,8 +99,8 @@ fn step(p: Pair, i: usize) -> Pair {
     let h = event::event(f, e);
     let a = o.answer;
     let b = h.answer;
-    print_answer(a);
-    print_answer(b);
+    printing::print(STDOUT_FILENO, texts::answer_text(a));
+    printing::print(STDOUT_FILENO, texts::answer_text(b));
     let x = o.device;
     let y = h.device;
     print_same(x, y);

@@ -11,21 +11,18 @@ use Rattle.rules.specs.declared.Kind.{Kind}
 use Rattle.rules.specs.declared.Kind.the-variants.{Master, Config, Vector, Polarity, Direction, Special, PortCommand, CounterCommand, Data, Current, Constant, CounterMode, CurrentVector, PortMode, Handshake, PatternPolarity, Transition, Mask, Absent}
 use Rattle.rules.specs.Byte.{bit, byteIn, withByte}
 use Rattle.rules.specs.Record.{portAt, patternAt, counterAt, sourceAt, ofPort, ofCounter, withMaster, withConfig, withVector, withPort, withPattern, withCounter, withSource, resetOf}
-use Rattle.rules.specs.Registers.{kept, counterOn, counterEnabled, commanded, statusOf}
+use Rattle.rules.specs.Registers.{kept, counterOn, counterEnabled, commanded, portCommandOf, counterCommandOf}
 use Rattle.rules.specs.PortData.{dataAt, writtenData}
 use Rattle.rules.specs.Counters.{commandedBy, thawed, shown, enabledBy}
 use Rattle.rules.specs.Patterns.{withIoe}
 use Rattle.rules.specs.Interrupts.{vectorRead, currentVector}
 
--- "Reads give IUS, IE, IP, ERR in D7-D4. Port: D1 PMF, D0 IOE (written), D3-D2 read 0."
+-- the command registers of port p and of counter i, as read
 unfoldable pub portCommand : Device → ℕ → ℕ
-portCommand d p = statusOf (sourceAt d (ofPort p)) + (cond (patternAt d p .pmf) 2 0 + cond (patternAt d p .ioe) 1 0)
+portCommand d p = portCommandOf (sourceAt d (ofPort p)) (patternAt d p)
 
--- "Counter: D3 RCC, D2 GCB, D1 trigger (reads 0), D0 CIP."
 unfoldable pub counterCommand : Device → ℕ → ℕ
-counterCommand d i =
-    statusOf (sourceAt d (ofCounter i))
-    + (cond (counterAt d i .rcc) 8 0 + cond (counterAt d i .gcb) 4 0 + cond (counterAt d i .cip) 1 0)
+counterCommand d i = counterCommandOf (sourceAt d (ofCounter i)) (counterAt d i)
 
 -- ---- the byte that a register reads
 unfoldable pub readOf : Device → Kind → ℕ

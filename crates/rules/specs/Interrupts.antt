@@ -55,7 +55,7 @@ vectorOf k = cond (eqb k 1) 0 (cond (eqb k 3) 1 2)
 
 -- "counters put 00 CT3, 01 CT2, 10 CT1, 11 for ERR in D2-D1"
 unfoldable pub counterStatus : ℕ → ℕ → Bool → ℕ
-counterStatus base n err = base / 8 * 8 + 2 * cond err 3 n + base % 2
+counterStatus base n err = base / 8 * 8 + 2 * cond err 3 (n % 4) + base % 2
 
 -- "ports put 0, 0, PMF in D3-D1, or 000 with ERR"
 unfoldable pub portStatus : ℕ → Bool → Bool → ℕ
@@ -72,12 +72,12 @@ withStatus d k =
 unfoldable pub vectorFor : Device → ℕ → ℕ
 vectorFor d k = cond (vis d (vectorOf k)) (withStatus d k) (vectorAt d (vectorOf k))
 
--- "K sets IUS of the highest requester, keeps IP, and gives its vector (0 if NV)."
+-- "K sets IUS of the highest requester, keeps IP, and gives its vector (0 if NV)."; nothing where none requests
 unfoldable pub acknowledged : Device → Device
 acknowledged d = withSource d (requester d) (withIus (sourceAt d (requester d)) true)
 
 unfoldable pub acknowledge : Device → ℕ
-acknowledge d = cond (nv d) 0 (vectorFor d (requester d))
+acknowledge d = cond (nv d || eqb (requester d) 5) 0 (vectorFor d (requester d))
 
 -- "the counters by the highest with IP and IE, base if none"
 unfoldable pub pendingCounter : Device → ℕ

@@ -1,4 +1,5 @@
 pub mod Byte
+pub mod Buffer
 pub mod Record
 pub mod Registers
 pub mod Counters

@@ -3,7 +3,8 @@
 use Prim.Native.Nat.{ℕ, _+_, _-_, _*_}
 use mathlib.Core.Bool.{Bool, true, false}
 use mathlib.Core.List.{List, [], _∷_}
-use lib.ListN.{getD, set}
+use mathlib.Core.Path.{_≡_}
+use lib.ListN.{length, getD, set}
 use Rattle.rules.specs.declared.Source.{Source}
 use Rattle.rules.specs.declared.Counter.{Counter}
 use Rattle.rules.specs.declared.Port.{Port}
@@ -110,3 +111,11 @@ resetOf d = resetTo (portAt d 0 .outside) (portAt d 1 .outside) (portAt d 2 .out
 -- "The fresh device (reset, outside pins 0, IEI 1)"
 abbrev pub freshOf : Device
 freshOf = resetTo 0 0 0 true
+
+-- ---- the records that there are: the arrays have the lengths that the struct gives them
+pub record Shaped (d : Device) : Type 0 where
+  pub vectors : length (d .vectors) ≡ 3
+  pub ports : length (d .ports) ≡ 3
+  pub patterns : length (d .patterns) ≡ 2
+  pub counters : length (d .counters) ≡ 3
+  pub sources : length (d .sources) ≡ 5

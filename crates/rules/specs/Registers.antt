@@ -5,6 +5,8 @@ use mathlib.Core.Bool.{Bool, true, false, not, _&&_, _||_, cond}
 use lib.Dec.{eqb, ltb}
 use Rattle.rules.specs.declared.Device.{Device}
 use Rattle.rules.specs.declared.Source.{Source}
+use Rattle.rules.specs.declared.Counter.{Counter}
+use Rattle.rules.specs.declared.Pattern.{Pattern}
 use Rattle.rules.specs.declared.Kind.{Kind}
 use Rattle.rules.specs.declared.Kind.the-variants.{Master, Config, Vector, Polarity, Direction, Special, PortCommand, CounterCommand, Data, Current, Constant, CounterMode, CurrentVector, PortMode, Handshake, PatternPolarity, Transition, Mask, Absent}
 use Rattle.rules.specs.Byte.{bit}
@@ -68,7 +70,7 @@ unfoldable pub portEnabled : Device → ℕ → Bool
 portEnabled d p = cond (eqb p 0) (bit (d .config) 2) (cond (eqb p 1) (bit (d .config) 7) (bit (d .config) 4))
 
 unfoldable pub counterOn : ℕ → ℕ → Bool
-counterOn config i = bit config (6 - i)
+counterOn config i = cond (eqb i 0) (bit config 6) (cond (eqb i 1) (bit config 5) (bit config 4))
 
 abbrev pub counterEnabled : Device → ℕ → Bool
 counterEnabled d i = counterOn (d .config) i
@@ -165,3 +167,11 @@ commanded s n =
 -- "Reads give IUS, IE, IP, ERR in D7-D4."
 unfoldable pub statusOf : Source → ℕ
 statusOf s = cond (s .ius) 128 0 + cond (s .ie) 64 0 + cond (s .ip) 32 0 + cond (s .err) 16 0
+
+-- "Port: D1 PMF, D0 IOE (written), D3-D2 read 0."
+abbrev pub portCommandOf : Source → Pattern → ℕ
+portCommandOf s q = statusOf s + (cond (q .pmf) 2 0 + cond (q .ioe) 1 0)
+
+-- "Counter: D3 RCC, D2 GCB, D1 trigger (reads 0), D0 CIP."
+abbrev pub counterCommandOf : Source → Counter → ℕ
+counterCommandOf s c = statusOf s + (cond (c .rcc) 8 0 + cond (c .gcb) 4 0 + cond (c .cip) 1 0)

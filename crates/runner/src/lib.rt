@@ -7,6 +7,10 @@ ghost use lib.ListN.{getD};
 ghost use Rattle.rules.specs.Step.{clockOf, iterate, ranOf};
 ghost use Rattle.runs.specs.Stretch.{lowerOf, loweredOf, movedOf};
 ghost use Rattle.runner.specs.Chase.{Timer, Moving, Leaps, Holds, Follows};
+
+mod clocks;
+
+use clocks::clock;
 use rules::Counter;
 use rules::Device;
 use rules::Ran;
@@ -146,11 +150,11 @@ fn leapt(s: Ran, left: u32) -> Leap
     requires { ⌜ (0 < left) × (getD (s .terminals) 0 0 + left ≤ 4294967295) × (getD (s .terminals) 1 0 + left ≤ 4294967295) × (getD (s .terminals) 2 0 + left ≤ 4294967295) ⌝ }
     ensures { λ r. ⌜ Leaps s left r ⌝ }
 {
-    let first = step::clock(s);
+    let first = clock(s);
     let d = s.device;
     let timer = d.phase & (d.master % 2 == 0) & (1 < left);
     if timer {
-        return stretched(s, step::clock(first), left);
+        return stretched(s, clock(first), left);
     }
     Leap {
         ran: first,

@@ -1,7 +1,7 @@
 // The lines of a descriptor, answered on another as they arrive.
 ghost use Prim.Native.Nat.{_≤_};
 ghost use lib.ListN.{length};
-ghost use Rattle.lines.specs.Kept.{most};
+ghost use Rattle.texts.specs.Kept.{most};
 use session::Session;
 
 // A session, whether to go on, and whether all answers are written.

@@ -10,7 +10,7 @@ use borrow.Author.Tests.{lt-ltb, le-ltb, le-leb, ltb-false, leb-false}
 use lib.Dec.{T, eqb, ltb, leb}
 use lib.ListN.{length, take, drop, length-append, length-drop}
 use lib.Seq.{paste, take-at, take-length, take-add, drop-drop, drop-append-add, length-take-le}
-use Rattle.lines.specs.Answers.{fits, laidOf}
+use Rattle.rules.specs.Buffer.{fits, laidOf}
 use Rattle.lines.specs.Pieces.{lineLen, saidIn, keptAfter}
 use Rattle.session.specs.Sessions.{answersTo, deviceAfter, afterOf, answersIn, readIn, readOf, fedBy, answered, lineIn, lineFed}
 use Rattle.session.specs.declared.Fed.{Fed}

@@ -7,11 +7,11 @@ use Rattle.rules.specs.Events.{eventOf}
 use Rattle.rules.specs.Record.{freshOf}
 use Rattle.rules.specs.declared.Device.{Device}
 use Rattle.lines.proofs.Whole.{said-append, kept-append, said-lines}
-use Rattle.lines.specs.Answers.{answerText}
+use Rattle.texts.specs.Answers.{answerText}
 use Rattle.lines.specs.Lines.{eventIn}
 use Rattle.lines.specs.Pieces.{saidIn, keptAfter, saidAll, joined}
 use Rattle.lines.specs.declared.Line.{Line}
-use Rattle.lines.specs.declared.Text.{Text}
+use Rattle.texts.specs.declared.Text.{Text}
 use Rattle.session.specs.Sessions.{answersTo, deviceAfter, outputOf, startOf, afterOf, answersIn, answersLast, writtenBy}
 use Rattle.session.specs.declared.Session.{Session}
 

@@ -11,9 +11,10 @@ use lib.Dec.{eqb, leb}
 use lib.ListN.{length, take, drop}
 use lib.Seq.{paste, paste-zero, length-take-le}
 use Rattle.lines.proofs.Cutting.{Cuts, cuts}
-use Rattle.lines.proofs.Printed.{answer-short}
-use Rattle.lines.specs.Answers.{answerText, fits, laidOf}
-use Rattle.lines.specs.Kept.{noText}
+use Rattle.texts.proofs.Printed.{answer-short}
+use Rattle.texts.specs.Answers.{answerText}
+use Rattle.rules.specs.Buffer.{fits, laidOf}
+use Rattle.texts.specs.Kept.{noText}
 use Rattle.lines.specs.Lines.{saysOf}
 use Rattle.lines.specs.Pieces.{lineLen, cutFrom, saidLast}
 use Rattle.lines.specs.declared.Cut.{Cut}

@@ -10,12 +10,12 @@ use Rattle.rules.specs.Events.{eventOf}
 use Rattle.rules.specs.Record.{freshOf}
 use Rattle.rules.specs.declared.Device.{Device}
 use Rattle.rules.specs.declared.Outcome.{Outcome}
-use Rattle.lines.specs.Answers.{answerText}
-use Rattle.lines.specs.Kept.{noText, most}
+use Rattle.texts.specs.Answers.{answerText}
+use Rattle.texts.specs.Kept.{noText, most}
 use Rattle.lines.specs.Lines.{eventIn, lineOf, saysOf}
 use Rattle.lines.specs.Pieces.{linesOf, lineLen, saidIn, keptAfter, saidLast}
 use Rattle.lines.specs.declared.Line.{Line}
-use Rattle.lines.specs.declared.Text.{Text}
+use Rattle.texts.specs.declared.Text.{Text}
 use Rattle.session.specs.declared.Fed.{Fed}
 use Rattle.session.specs.declared.Session.{Session}
 

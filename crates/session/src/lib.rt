@@ -3,10 +3,11 @@ ghost use mathlib.Core.Path.{_≡_};
 ghost use mathlib.Core.Bool.{cond};
 ghost use Prim.Native.Nat.{_+_, _≤_};
 ghost use lib.ListN.{length};
-ghost use Rattle.lines.specs.Answers.{answerText, fits, laidOf};
+ghost use Rattle.texts.specs.Answers.{answerText};
+ghost use Rattle.rules.specs.Buffer.{fits, laidOf};
 ghost use Rattle.session.specs.Sessions.{outcomeBy, startOf, answersIn, answersLast, readOf, fedBy, answered, lineIn, lineFed};
-use lines::Text;
 use rules::Device;
+use texts::Text;
 
 pub struct Session {
     pub device: Device,
@@ -26,7 +27,7 @@ pub fn start() -> Session
 {
     Session {
         device: Device::fresh(),
-        text: lines::no_text(),
+        text: texts::no_text(),
     }
 }
 
@@ -45,7 +46,7 @@ fn tell(d: Device, t: Text, out: &mut [u8], at: usize) -> Told
     let o = event::event(d, lines::event_in(lines::says(t)));
     let e = o.device;
     let a = o.answer;
-    let n = lines::lay(lines::answer_text(a), out, at);
+    let n = texts::lay(texts::answer_text(a), out, at);
     Told { device: e, len: n }
 }
 
@@ -66,7 +67,7 @@ fn take_line(f: Fed, piece: &[u8], out: &mut [u8]) -> Fed
         return Fed {
             session: Session {
                 device: e,
-                text: lines::no_text(),
+                text: texts::no_text(),
             },
             next: c.next,
             len: a.len,
@@ -90,7 +91,7 @@ pub fn feed(s: Session, piece: &[u8], at: usize, out: &mut [u8]) -> Fed
         next: at,
         len: 0,
     };
-    while (f.next < piece.len()) & (f.len + lines::MOST <= out.len()) {
+    while (f.next < piece.len()) & (f.len + texts::MOST <= out.len()) {
         f = take_line(f, piece, out);
     }
     f

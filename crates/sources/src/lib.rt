@@ -1,9 +1,11 @@
 // One interrupt source: commands, events, and what its command register reads; and vectors.
 ghost use mathlib.Core.Path.{_≡_};
 ghost use mathlib.Core.Bool.{true};
-ghost use Prim.Native.Nat.{_≤_, _<_};
-ghost use Rattle.rules.specs.Registers.{withIus, withIe, withIp, ipCleared, commanded, statusOf};
+ghost use Prim.Native.Nat.{_≤_};
+ghost use Rattle.rules.specs.Registers.{withIus, withIe, withIp, ipCleared, commanded, statusOf, portCommandOf, counterCommandOf};
 ghost use Rattle.rules.specs.Interrupts.{raisedOf, firstOf, counterStatus, portStatus};
+use rules::Counter;
+use rules::Pattern;
 use rules::Source;
 
 fn clear_ip(s: Source) -> Source
@@ -73,6 +75,20 @@ pub fn status(s: Source) -> u8
         + bits::weight(s.err, 16)
 }
 
+// What the command register of a port reads.
+pub fn port_command(s: Source, q: Pattern) -> u8
+    ensures { λ r. ⌜ r ≡ portCommandOf s q ⌝ }
+{
+    status(s) + (bits::weight(q.pmf, 2) + bits::weight(q.ioe, 1))
+}
+
+// What the command register of a counter reads.
+pub fn counter_command(s: Source, c: Counter) -> u8
+    ensures { λ r. ⌜ r ≡ counterCommandOf s c ⌝ }
+{
+    status(s) + (bits::weight(c.rcc, 8) + bits::weight(c.gcb, 4) + bits::weight(c.cip, 1))
+}
+
 // An event comes to a source; `hides` says whether it may set the hidden error.
 pub fn raise(hides: bool, s: Source) -> Source
     ensures { λ r. ⌜ r ≡ raisedOf hides s ⌝ }
@@ -113,13 +129,12 @@ pub fn first(a: bool, b: bool, c: bool, d: bool, e: bool) -> usize
 
 // A counter's vector with status; n is 0 for CT3, 1 for CT2, 2 for CT1.
 pub fn counter_vector(base: u8, n: u8, err: bool) -> u8
-    requires { ⌜ n < 3 ⌝ }
     ensures { λ r. ⌜ r ≡ counterStatus base n err ⌝ }
 {
     if err {
         return base / 8 * 8 + 6 + base % 2;
     }
-    base / 8 * 8 + 2 * n + base % 2
+    base / 8 * 8 + 2 * (n % 4) + base % 2
 }
 
 // A port's vector with status.

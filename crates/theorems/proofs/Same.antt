@@ -9,12 +9,11 @@ use lib.ListN.{length, getD}
 use lib.Seq.{ext-getD}
 use borrow.Author.Tests.{eqb-true}
 use Rattle.rules.specs.declared.Device.{Device}
-use Rattle.rules.specs.Record.{vectorAt, portAt, patternAt, counterAt, sourceAt, quiet, idle, bare, blank}
+use Rattle.rules.specs.Record.{Shaped, vectorAt, portAt, patternAt, counterAt, sourceAt, quiet, idle, bare, blank}
 use Rattle.rules.specs.Sound.{sameSource, sameCounter, samePort, samePattern, sameSources, sameCounters, samePorts, samePatterns, sameVectors, sameOf}
 use Rattle.theorems.proofs.Tests.{each}
 use Rattle.theorems.proofs.Places.{each2, each3, each5}
 use Rattle.theorems.proofs.Equal.{beq-true, beq-refl, eqb-same, same-source, same-counter, same-port, same-pattern, source-same, counter-same, port-same, pattern-same}
-use Rattle.theorems.proofs.Shapes.{Shaped}
 
 pub same-refl : (d : Device) → sameOf d d ≡ true
 unfolding sameOf sameVectors samePorts samePatterns sameCounters sameSources

@@ -20,7 +20,7 @@ use Rattle.rules.specs.declared.Link.{Link}
 use Rattle.rules.specs.declared.Kind.{Kind}
 use Rattle.rules.specs.declared.Kind.the-variants.{Master, Config, Vector, Polarity, Direction, Special, PortCommand, CounterCommand, Data, Current, Constant, CounterMode, CurrentVector, PortMode, Handshake, PatternPolarity, Transition, Mask, Absent}
 use Rattle.rules.specs.Byte.{bit}
-use Rattle.rules.specs.Record.{freshOf, counterAt, sourceAt, ofPort, ofCounter, withMaster, withVector, withPort, withPattern, withCounter, withSource, withIei, withPhase, resetOf}
+use Rattle.rules.specs.Record.{Shaped, freshOf, counterAt, sourceAt, ofPort, ofCounter, withMaster, withVector, withPort, withPattern, withCounter, withSource, withIei, withPhase, resetOf}
 use Rattle.rules.specs.Registers.{reset, kindOf}
 use Rattle.rules.specs.Counters.{thawed}
 use Rattle.rules.specs.Interrupts.{raisedOf, acknowledged}
@@ -29,13 +29,6 @@ use Rattle.rules.specs.Access.{afterRead, masterWritten, configWritten, portCom
 use Rattle.rules.specs.Events.{isX, isW, isR, isP, isT, isK, writeDone, readDone, outsideSet, pinsDone, clocksDone, acknowledgeDone, ieiDone, doneOf, outcomeOf, eventOf}
 use Rattle.theorems.proofs.Tests.{by-test}
 use Rattle.theorems.proofs.Refusals.{ways}
-
-pub record Shaped (d : Device) : Type 0 where
-  pub vectors : length (d .vectors) ≡ 3
-  pub ports : length (d .ports) ≡ 3
-  pub patterns : length (d .patterns) ≡ 2
-  pub counters : length (d .counters) ≡ 3
-  pub sources : length (d .sources) ≡ 5
 
 -- the record with other parts, as many
 shaped : (d e : Device) → Shaped d → length (e .vectors) ≡ length (d .vectors) → length (e .ports) ≡ length (d .ports)

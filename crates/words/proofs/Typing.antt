@@ -1,30 +1,24 @@
--- A word typed byte by byte.
+-- What is typed after what is typed, and a name with its bit.
 -- Assumes nothing.
-use Prim.Native.Nat.{ℕ, _+_, _<_}
+use Prim.Native.Nat.{ℕ}
 use mathlib.Core.Bool.{Bool, cond}
-use mathlib.Core.List.{List, [], _∷_}
-use mathlib.Core.Path.{_≡_, refl, sym, ap, _∙_}
-use lib.ListN.{length, take, getD}
-use Rattle.lines.specs.Kept.{pushed, typed}
-use Rattle.lines.specs.declared.Text.{Text}
-use lib.Seq.{take-suc}
-use native.Mathlib.Numerals.{add-one}
-use Rattle.lines.proofs.Typing.{typed-append}
+use mathlib.Core.List.{List, [], _∷_, _++_}
+use mathlib.Core.Path.{_≡_, sym, ap, _∙_}
+use Rattle.texts.specs.Kept.{pushed, noText, typed}
+use Rattle.texts.specs.declared.Text.{Text}
+use Rattle.texts.proofs.Typing.{typed-append}
 use Rattle.words.specs.Shown.{named}
 
--- no byte of a word yet
-pub word-none : (t : Text) (w : List ℕ) → t ≡ typed t (take 0 w)
-unfolding typed
-word-none t w = refl
+-- a line: its first words, what comes after what it has, and its line feed
+pub begun : {t u : Text} (w : List ℕ) → t ≡ noText → u ≡ typed t w → u ≡ typed noText w
+begun w e h = h ∙ ap (λ (x : Text). typed x w) e
 
--- the next byte of a word
-pub word-more :
-    (t : Text) (w : List ℕ) (i : ℕ) → i < length w → pushed (typed t (take i w)) (getD w i 0) ≡ typed t (take (i + 1) w)
+pub more : {t u : Text} (v w : List ℕ) → t ≡ typed noText v → u ≡ typed t w → u ≡ typed noText (v ++ w)
+more v w e h = h ∙ ap (λ (x : Text). typed x w) e ∙ sym (typed-append noText v w)
+
+pub ended : {t u : Text} (v : List ℕ) → t ≡ typed noText v → u ≡ pushed t 10 → u ≡ typed noText (v ++ (10 ∷ []))
 unfolding typed
-word-more t w i h =
-    sym
-    (ap (λ (n : ℕ). typed t (take n w)) (add-one i) ∙ ap (λ (v : List ℕ). typed t v) (take-suc w i 0 h)
-    ∙ typed-append t (take i w) (getD w i 0 ∷ []))
+ended v e h = h ∙ ap (λ (x : Text). pushed x 10) e ∙ sym (typed-append noText v (10 ∷ []))
 
 -- a name, and its bit's digit
 pub named-is : (t : Text) (w : List ℕ) (f : Bool) (b : ℕ) → cond f 49 48 ≡ b → pushed (typed t w) b ≡ typed t (named w f)

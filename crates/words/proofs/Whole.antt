@@ -3,21 +3,22 @@
 use Prim.Native.Nat.{ℕ, _-_, _/_, _%_, _≤_}
 use mathlib.Core.Bool.{Bool, true, false, cond}
 use mathlib.Core.List.{List, [], _∷_, _++_}
-use mathlib.Core.Path.{_≡_}
+use mathlib.Core.Path.{_≡_, refl}
 use native.Mathlib.Omega.{arith}
 use lib.Dec.{eqb, ltb}
-use lib.ListN.{length, length-append}
+use lib.ListN.{length, getD, length-append}
 use Rattle.rules.specs.declared.Counter.{Counter}
 use Rattle.rules.specs.declared.Device.{Device}
 use Rattle.rules.specs.declared.Pattern.{Pattern}
 use Rattle.rules.specs.declared.Source.{Source}
 use Rattle.rules.specs.Record.{patternAt, sourceAt}
 use Rattle.rules.specs.Interrupts.{requester, acknowledge}
-use Rattle.lines.specs.Kept.{noText, typed, bytesOf}
-use Rattle.lines.proofs.Keeping.{bytes-line}
-use Rattle.words.specs.Spelled.{spelled}
+use Rattle.texts.specs.Kept.{noText, typed, bytesOf}
+use Rattle.texts.proofs.Keeping.{bytes-line}
+use Rattle.phrases.specs.Spelled.{spelled}
 use Rattle.words.specs.Cells.{bitCell, yesCell, byteCell, numberCell}
-use Rattle.words.specs.Shown.{named, masterLine, linkLine, portLabel, portCell, portLine, patternLabel, patternMode, patternCell, patternLine, counterLabel, modeCell, againCell, countsCell, halfCell, frozenCell, counterCell, counterColumn, counterLine, sourceLabel, sourceCell, sourceLine, levelsLine, requestLine, giveLabel, acknowledgeLine, headLine, tailLine, shownLine}
+use Rattle.words.specs.Shown.{named, masterLine, linkLine, portLabels, portCell, portLine, patternLabels, patternMode, patternCell, patternLine, counterLabels, modeCell, againCell, countsCell, halfCell, frozenCell, counterCell, counterColumn, counterLine, sourceLabels, sourceCell, sourceLine, levelsLine, requestLine, giveLabel, acknowledgeLine, headLine, tailLine, shownLine}
+use Rattle.words.proofs.Rows.{width}
 
 -- the one or the other
 pick : (m : ℕ) (b : Bool) (x y : List ℕ) → length x ≤ m → length y ≤ m → length (cond b x y) ≤ m
@@ -107,56 +108,24 @@ counter-column d i row = counter-cell _ _ row
 
 source-cell : (s : Source) (row : ℕ) → length (sourceCell s row) ≤ 12
 unfolding sourceCell
-source-cell s row =
-    pick 12 (eqb row 0) _ _ (bit-cell _)
-    (pick 12 (eqb row 1) _ _ (bit-cell _)
-    (pick 12 (eqb row 2) _ _ (bit-cell _)
-    (pick 12 (eqb row 3) _ _ (bit-cell _) (bit-cell _))))
+source-cell s row = bit-cell _
 
 -- ---- labels
-port-label : (row : ℕ) → length (portLabel row) ≤ 16
-unfolding portLabel spelled
-port-label row =
-    pick 16 (eqb row 0) _ _ (omega arith)
-    (pick 16 (eqb row 1) _ _ (omega arith)
-    (pick 16 (eqb row 2) _ _ (omega arith)
-    (pick 16 (eqb row 3) _ _ (omega arith)
-    (pick 16 (eqb row 4) _ _ (omega arith)
-    (pick 16 (eqb row 5) _ _ (omega arith) (omega arith))))))
+port-label : (row : ℕ) → length (getD portLabels row []) ≤ 16
+unfolding spelled
+port-label row = width 16 portLabels row refl
 
-pattern-label : (row : ℕ) → length (patternLabel row) ≤ 16
-unfolding patternLabel spelled
-pattern-label row =
-    pick 16 (eqb row 0) _ _ (omega arith)
-    (pick 16 (eqb row 1) _ _ (omega arith)
-    (pick 16 (eqb row 2) _ _ (omega arith)
-    (pick 16 (eqb row 3) _ _ (omega arith) (omega arith))))
+pattern-label : (row : ℕ) → length (getD patternLabels row []) ≤ 16
+unfolding spelled
+pattern-label row = width 16 patternLabels row refl
 
-counter-label : (row : ℕ) → length (counterLabel row) ≤ 16
-unfolding counterLabel spelled
-counter-label row =
-    pick 16 (eqb row 0) _ _ (omega arith)
-    (pick 16 (eqb row 1) _ _ (omega arith)
-    (pick 16 (eqb row 2) _ _ (omega arith)
-    (pick 16 (eqb row 3) _ _ (omega arith)
-    (pick 16 (eqb row 4) _ _ (omega arith)
-    (pick 16 (eqb row 5) _ _ (omega arith)
-    (pick 16 (eqb row 6) _ _ (omega arith)
-    (pick 16 (eqb row 7) _ _ (omega arith)
-    (pick 16 (eqb row 8) _ _ (omega arith)
-    (pick 16 (eqb row 9) _ _ (omega arith)
-    (pick 16 (eqb row 10) _ _ (omega arith)
-    (pick 16 (eqb row 11) _ _ (omega arith)
-    (pick 16 (eqb row 12) _ _ (omega arith)
-    (pick 16 (eqb row 13) _ _ (omega arith) (omega arith))))))))))))))
+counter-label : (row : ℕ) → length (getD counterLabels row []) ≤ 16
+unfolding spelled
+counter-label row = width 16 counterLabels row refl
 
-source-label : (row : ℕ) → length (sourceLabel row) ≤ 16
-unfolding sourceLabel spelled
-source-label row =
-    pick 16 (eqb row 0) _ _ (omega arith)
-    (pick 16 (eqb row 1) _ _ (omega arith)
-    (pick 16 (eqb row 2) _ _ (omega arith)
-    (pick 16 (eqb row 3) _ _ (omega arith) (omega arith))))
+source-label : (row : ℕ) → length (getD sourceLabels row []) ≤ 16
+unfolding spelled
+source-label row = width 16 sourceLabels row refl
 
 -- ---- lines
 master-line : (m : ℕ) → length (masterLine m) ≤ 80

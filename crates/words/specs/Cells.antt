@@ -4,8 +4,8 @@ use Prim.Native.Nat.{ℕ, _+_, _/_, _%_}
 use mathlib.Core.Bool.{Bool, cond}
 use mathlib.Core.List.{List, [], _∷_, _++_}
 use lib.Dec.{ltb}
-use Rattle.lines.specs.Answers.{glyphOf}
-use Rattle.words.specs.Spelled.{spelled}
+use Rattle.texts.specs.Answers.{glyphOf}
+use Rattle.phrases.specs.Spelled.{spelled}
 
 -- a bit
 unfoldable pub bitCell : Bool → List ℕ

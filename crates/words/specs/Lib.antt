@@ -1,4 +1,2 @@
-pub mod Spelled
 pub mod Cells
 pub mod Shown
-pub mod Refusals

@@ -1,9 +1,10 @@
 -- The device in words: one fact a line, a column for each port, counter or source.
 -- Assumes nothing.
 use Prim.Native.Nat.{ℕ, _-_, _/_, _%_}
-use mathlib.Core.Bool.{Bool, _&&_, cond}
+use mathlib.Core.Bool.{Bool, false, _&&_, cond}
 use mathlib.Core.List.{List, [], _∷_, _++_}
 use lib.Dec.{eqb, ltb}
+use lib.ListN.{getD}
 use Rattle.rules.specs.declared.Counter.{Counter}
 use Rattle.rules.specs.declared.Pattern.{Pattern}
 use Rattle.rules.specs.declared.Source.{Source}
@@ -14,7 +15,7 @@ use Rattle.rules.specs.Registers.{portEnabled, counterEnabled, lc}
 use Rattle.rules.specs.Counters.{continuous, outputEnabled, countInput, triggerInput, gateInput, retrigger, outputOf}
 use Rattle.rules.specs.PortData.{pinsAt}
 use Rattle.rules.specs.Interrupts.{requester, intOf, ieoOf, acknowledge}
-use Rattle.words.specs.Spelled.{spelled}
+use Rattle.phrases.specs.Spelled.{spelled}
 use Rattle.words.specs.Cells.{bitCell, yesCell, byteCell, numberCell}
 
 -- a line feed
@@ -42,15 +43,15 @@ linkLine n =
     (spelled "CT1's output    is what CT2 counts\n")))
 
 -- ---- the ports
-unfoldable pub portLabel : ℕ → List ℕ
-portLabel row =
-    cond (eqb row 0) (spelled "enabled         ")
-    (cond (eqb row 1) (spelled "direction       ")
-    (cond (eqb row 2) (spelled "polarity        ")
-    (cond (eqb row 3) (spelled "special         ")
-    (cond (eqb row 4) (spelled "output register ")
-    (cond (eqb row 5) (spelled "pins            ")
-    (spelled "catchers        "))))))
+abbrev pub portLabels : List (List ℕ)
+portLabels =
+    spelled "enabled         "
+    ∷ spelled "direction       "
+    ∷ spelled "polarity        "
+    ∷ spelled "special         "
+    ∷ spelled "output register "
+    ∷ spelled "pins            "
+    ∷ spelled "catchers        " ∷ []
 
 unfoldable pub portCell : Device → ℕ → ℕ → List ℕ
 portCell d p row =
@@ -63,16 +64,16 @@ portCell d p row =
     (byteCell (portAt d p .catcher)))))))
 
 unfoldable pub portLine : Device → ℕ → List ℕ
-portLine d row = portLabel row ++ portCell d 0 row ++ portCell d 1 row ++ portCell d 2 row ++ feed
+portLine d row = getD portLabels row [] ++ portCell d 0 row ++ portCell d 1 row ++ portCell d 2 row ++ feed
 
 -- ---- the patterns of ports A and B
-unfoldable pub patternLabel : ℕ → List ℕ
-patternLabel row =
-    cond (eqb row 0) (spelled "pattern         ")
-    (cond (eqb row 1) (spelled "  polarity      ")
-    (cond (eqb row 2) (spelled "  transition    ")
-    (cond (eqb row 3) (spelled "  mask          ")
-    (spelled "PMF             "))))
+abbrev pub patternLabels : List (List ℕ)
+patternLabels =
+    spelled "pattern         "
+    ∷ spelled "  polarity      "
+    ∷ spelled "  transition    "
+    ∷ spelled "  mask          "
+    ∷ spelled "PMF             " ∷ []
 
 -- "AND (20H/28H D2-D1 = 01) .. OR (10)"
 unfoldable pub patternMode : ℕ → List ℕ
@@ -90,26 +91,26 @@ patternCell q row =
     (bitCell (q .pmf)))))
 
 unfoldable pub patternLine : Device → ℕ → List ℕ
-patternLine d row = patternLabel row ++ patternCell (patternAt d 0) row ++ patternCell (patternAt d 1) row ++ feed
+patternLine d row = getD patternLabels row [] ++ patternCell (patternAt d 0) row ++ patternCell (patternAt d 1) row ++ feed
 
 -- ---- the counters
-unfoldable pub counterLabel : ℕ → List ℕ
-counterLabel row =
-    cond (eqb row 0) (spelled "enabled         ")
-    (cond (eqb row 1) (spelled "mode            ")
-    (cond (eqb row 2) (spelled "                ")
-    (cond (eqb row 3) (spelled "counts          ")
-    (cond (eqb row 4) (spelled "trigger line    ")
-    (cond (eqb row 5) (spelled "gate line       ")
-    (cond (eqb row 6) (spelled "output line     ")
-    (cond (eqb row 7) (spelled "retrigger       ")
-    (cond (eqb row 8) (spelled "time constant   ")
-    (cond (eqb row 9) (spelled "count           ")
-    (cond (eqb row 10) (spelled "gate (GCB)      ")
-    (cond (eqb row 11) (spelled "in progress CIP ")
-    (cond (eqb row 12) (spelled "half            ")
-    (cond (eqb row 13) (spelled "frozen count    ")
-    (spelled "output          "))))))))))))))
+abbrev pub counterLabels : List (List ℕ)
+counterLabels =
+    spelled "enabled         "
+    ∷ spelled "mode            "
+    ∷ spelled "                "
+    ∷ spelled "counts          "
+    ∷ spelled "trigger line    "
+    ∷ spelled "gate line       "
+    ∷ spelled "output line     "
+    ∷ spelled "retrigger       "
+    ∷ spelled "time constant   "
+    ∷ spelled "count           "
+    ∷ spelled "gate (GCB)      "
+    ∷ spelled "in progress CIP "
+    ∷ spelled "half            "
+    ∷ spelled "frozen count    "
+    ∷ spelled "output          " ∷ []
 
 -- "00 pulse, 01 one-shot, 10 square"
 unfoldable pub modeCell : ℕ → List ℕ
@@ -158,28 +159,23 @@ unfoldable pub counterColumn : Device → ℕ → ℕ → List ℕ
 counterColumn d i row = counterCell (counterEnabled d i) (counterAt d i) row
 
 unfoldable pub counterLine : Device → ℕ → List ℕ
-counterLine d row = counterLabel row ++ counterColumn d 0 row ++ counterColumn d 1 row ++ counterColumn d 2 row ++ feed
+counterLine d row = getD counterLabels row [] ++ counterColumn d 0 row ++ counterColumn d 1 row ++ counterColumn d 2 row ++ feed
 
 -- ---- the sources, in their order of priority
-unfoldable pub sourceLabel : ℕ → List ℕ
-sourceLabel row =
-    cond (eqb row 0) (spelled "IE              ")
-    (cond (eqb row 1) (spelled "IP              ")
-    (cond (eqb row 2) (spelled "IUS             ")
-    (cond (eqb row 3) (spelled "ERR             ")
-    (spelled "hidden error    "))))
+abbrev pub sourceLabels : List (List ℕ)
+sourceLabels =
+    spelled "IE              "
+    ∷ spelled "IP              "
+    ∷ spelled "IUS             "
+    ∷ spelled "ERR             "
+    ∷ spelled "hidden error    " ∷ []
 
 unfoldable pub sourceCell : Source → ℕ → List ℕ
-sourceCell s row =
-    cond (eqb row 0) (bitCell (s .ie))
-    (cond (eqb row 1) (bitCell (s .ip))
-    (cond (eqb row 2) (bitCell (s .ius))
-    (cond (eqb row 3) (bitCell (s .err))
-    (bitCell (s .hidden)))))
+sourceCell s row = bitCell (getD (s .ie ∷ s .ip ∷ s .ius ∷ s .err ∷ s .hidden ∷ []) row false)
 
 unfoldable pub sourceLine : Device → ℕ → List ℕ
 sourceLine d row =
-    sourceLabel row ++ sourceCell (sourceAt d 0) row ++ sourceCell (sourceAt d 1) row ++ sourceCell (sourceAt d 2) row
+    getD sourceLabels row [] ++ sourceCell (sourceAt d 0) row ++ sourceCell (sourceAt d 1) row ++ sourceCell (sourceAt d 2) row
     ++ sourceCell (sourceAt d 3) row ++ sourceCell (sourceAt d 4) row ++ feed
 
 -- ---- the lines, who requests, and what K would give

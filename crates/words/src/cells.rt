@@ -1,23 +1,25 @@
-// Words, bits and numbers, each in a column of twelve bytes.
+// Labels, and names with their bits; bits and numbers, each in a column of twelve bytes.
 ghost use mathlib.Core.Path.{_≡_};
+ghost use mathlib.Core.List.{[]};
 ghost use Prim.Native.Nat.{_<_};
-ghost use Rattle.lines.specs.Kept.{typed};
-ghost use Rattle.lines.specs.Answers.{glyphOf};
+ghost use lib.ListN.{getD};
+ghost use Rattle.texts.specs.Kept.{noText, typed};
 ghost use Rattle.words.specs.Cells.{bitCell, yesCell, byteCell, placed, numberCell};
 ghost use Rattle.words.specs.Shown.{named as namedOf};
-use lines::Text;
-use lines::push;
+use phrases::word;
+use texts::Text;
+use texts::glyph;
+use texts::push;
 
-pub fn word(t: Text, w: &[u8]) -> Text
-    ensures { λ r. ⌜ r ≡ typed t (now (w .entry)) ⌝ }
+// The label at a row's place in a table, on a new line; beyond the table none.
+pub fn label(rows: &[[u8; 16]], row: usize) -> Text
+    ensures { λ r. ⌜ r ≡ typed noText (getD (now (rows .entry)) row []) ⌝ }
 {
-    let mut u = t;
-    let mut i = 0;
-    while i < w.len() {
-        u = push(u, w[i]);
-        i += 1;
+    let t = texts::no_text();
+    if row < rows.len() {
+        return word(t, &rows[row]);
     }
-    u
+    t
 }
 
 // A name and its bit.
@@ -47,16 +49,6 @@ pub fn yes_cell(t: Text, f: bool) -> Text
         return word(t, b"         yes");
     }
     word(t, b"          no")
-}
-
-// The capital hexadecimal digit of the lower four bits.
-fn glyph(n: u8) -> u8
-    ensures { λ r. ⌜ r ≡ glyphOf n ⌝ }
-{
-    if n % 16 < 10 {
-        return 48 + n % 16;
-    }
-    55 + n % 16
 }
 
 pub fn byte_cell(t: Text, n: u8) -> Text

@@ -1,39 +1,35 @@
 // The counters, a fact a line: its label, and a column for each counter.
 ghost use mathlib.Core.Path.{_≡_};
 ghost use Prim.Native.Nat.{_<_};
-ghost use Rattle.lines.specs.Kept.{noText, typed};
-ghost use Rattle.words.specs.Shown.{counterLabel, modeCell, againCell, countsCell, countShown, halfCell, frozenCell, counterCell, counterColumn, counterLine};
+ghost use Rattle.texts.specs.Kept.{noText, typed};
+ghost use Rattle.words.specs.Shown.{modeCell, againCell, countsCell, countShown, halfCell, frozenCell, counterCell, counterColumn, counterLine};
 use crate::cells::bit_cell;
+use crate::cells::label;
 use crate::cells::number_cell;
-use crate::cells::word;
 use crate::cells::yes_cell;
-use lines::Text;
-use lines::push;
+use phrases::word;
 use rules::Counter;
 use rules::Device;
+use texts::Text;
+use texts::push;
 
-fn counter_label(row: usize) -> Text
-    ensures { λ r. ⌜ r ≡ typed noText (counterLabel row) ⌝ }
-{
-    let t = lines::no_text();
-    match row {
-        0 => word(t, b"enabled         "),
-        1 => word(t, b"mode            "),
-        2 => word(t, b"                "),
-        3 => word(t, b"counts          "),
-        4 => word(t, b"trigger line    "),
-        5 => word(t, b"gate line       "),
-        6 => word(t, b"output line     "),
-        7 => word(t, b"retrigger       "),
-        8 => word(t, b"time constant   "),
-        9 => word(t, b"count           "),
-        10 => word(t, b"gate (GCB)      "),
-        11 => word(t, b"in progress CIP "),
-        12 => word(t, b"half            "),
-        13 => word(t, b"frozen count    "),
-        _ => word(t, b"output          "),
-    }
-}
+const LABELS: [[u8; 16]; 15] = [
+    *b"enabled         ",
+    *b"mode            ",
+    *b"                ",
+    *b"counts          ",
+    *b"trigger line    ",
+    *b"gate line       ",
+    *b"output line     ",
+    *b"retrigger       ",
+    *b"time constant   ",
+    *b"count           ",
+    *b"gate (GCB)      ",
+    *b"in progress CIP ",
+    *b"half            ",
+    *b"frozen count    ",
+    *b"output          ",
+];
 
 fn mode_cell(t: Text, mode: u8) -> Text
     ensures { λ r. ⌜ r ≡ typed t (modeCell mode) ⌝ }
@@ -125,7 +121,7 @@ fn counter_column(t: Text, d: Device, i: usize, row: usize) -> Text
 pub fn counter_line(d: Device, row: usize) -> Text
     ensures { λ r. ⌜ r ≡ typed noText (counterLine d row) ⌝ }
 {
-    let t = counter_label(row);
+    let t = label(&LABELS, row);
     let a = counter_column(t, d, 0, row);
     let b = counter_column(a, d, 1, row);
     push(counter_column(b, d, 2, row), b'\n')

@@ -1,19 +1,19 @@
 // The lines that have no columns.
 ghost use mathlib.Core.Path.{_≡_};
-ghost use Rattle.lines.specs.Kept.{noText, typed};
+ghost use Rattle.texts.specs.Kept.{noText, typed};
 ghost use Rattle.words.specs.Shown.{masterLine, linkLine, levelsLine, requestLine, giveLabel, acknowledgeLine};
 use crate::cells::byte_cell;
 use crate::cells::named;
-use crate::cells::word;
-use lines::Text;
-use lines::push;
+use phrases::word;
 use rules::Device;
+use texts::Text;
+use texts::push;
 
 // The master interrupt register's bits by name.
 pub fn master_line(m: u8) -> Text
     ensures { λ r. ⌜ r ≡ typed noText (masterLine m) ⌝ }
 {
-    let mie = named(lines::no_text(), b"master          MIE ", m / 128 % 2 == 1);
+    let mie = named(texts::no_text(), b"master          MIE ", m / 128 % 2 == 1);
     let dlc = named(mie, b"  DLC ", m / 64 % 2 == 1);
     let nv = named(dlc, b"  NV ", m / 32 % 2 == 1);
     let vis_a = named(nv, b"  VIS A ", m / 16 % 2 == 1);
@@ -27,7 +27,7 @@ pub fn master_line(m: u8) -> Text
 pub fn link_line(lc: u8) -> Text
     ensures { λ r. ⌜ r ≡ typed noText (linkLine lc) ⌝ }
 {
-    let t = lines::no_text();
+    let t = texts::no_text();
     match lc {
         0 => word(t, b"CT1's output    is not linked to CT2\n"),
         1 => word(t, b"CT1's output    gates CT2\n"),
@@ -41,7 +41,7 @@ pub fn levels_line(d: Device) -> Text
 {
     let int = interrupts::int(d);
     let ieo = interrupts::ieo(d);
-    let t1 = named(lines::no_text(), b"lines           INT ", int);
+    let t1 = named(texts::no_text(), b"lines           INT ", int);
     let t2 = named(t1, b"  IEO ", ieo);
     let t3 = named(t2, b"  IEI ", d.iei);
     push(named(t3, b"  phase ", d.phase), b'\n')
@@ -51,7 +51,7 @@ pub fn levels_line(d: Device) -> Text
 pub fn request_line(k: usize) -> Text
     ensures { λ r. ⌜ r ≡ typed noText (requestLine k) ⌝ }
 {
-    let t = lines::no_text();
+    let t = texts::no_text();
     match k {
         0 => word(t, b"requesting      CT3\n"),
         1 => word(t, b"requesting      port A\n"),
@@ -65,7 +65,7 @@ pub fn request_line(k: usize) -> Text
 fn give_label() -> Text
     ensures { λ r. ⌜ r ≡ typed noText giveLabel ⌝ }
 {
-    word(lines::no_text(), b"K would give    ")
+    word(texts::no_text(), b"K would give    ")
 }
 
 pub fn acknowledge_line(d: Device) -> Text
@@ -73,8 +73,8 @@ pub fn acknowledge_line(d: Device) -> Text
 {
     let k = interrupts::requester_of(d);
     if k < 5 {
-        let value = interrupts::acknowledge_by(d, k);
+        let value = interrupts::acknowledge(d);
         return push(byte_cell(give_label(), value), b'\n');
     }
-    word(lines::no_text(), b"K would give    code 6\n")
+    word(texts::no_text(), b"K would give    code 6\n")
 }

@@ -1,31 +1,27 @@
 // The ports, a fact a line: its label, and a column for each port.
 ghost use mathlib.Core.Path.{_≡_};
 ghost use Prim.Native.Nat.{_<_};
-ghost use Rattle.lines.specs.Kept.{noText, typed};
-ghost use Rattle.words.specs.Shown.{portLabel, portCell, portLine, patternLabel, patternMode, patternCell, patternLine};
+ghost use Rattle.texts.specs.Kept.{noText, typed};
+ghost use Rattle.words.specs.Shown.{portCell, portLine, patternMode, patternCell, patternLine};
 use crate::cells::bit_cell;
 use crate::cells::byte_cell;
-use crate::cells::word;
+use crate::cells::label;
 use crate::cells::yes_cell;
-use lines::Text;
-use lines::push;
+use phrases::word;
 use rules::Device;
 use rules::Pattern;
+use texts::Text;
+use texts::push;
 
-fn port_label(row: usize) -> Text
-    ensures { λ r. ⌜ r ≡ typed noText (portLabel row) ⌝ }
-{
-    let t = lines::no_text();
-    match row {
-        0 => word(t, b"enabled         "),
-        1 => word(t, b"direction       "),
-        2 => word(t, b"polarity        "),
-        3 => word(t, b"special         "),
-        4 => word(t, b"output register "),
-        5 => word(t, b"pins            "),
-        _ => word(t, b"catchers        "),
-    }
-}
+const PORT_LABELS: [[u8; 16]; 7] = [
+    *b"enabled         ",
+    *b"direction       ",
+    *b"polarity        ",
+    *b"special         ",
+    *b"output register ",
+    *b"pins            ",
+    *b"catchers        ",
+];
 
 fn port_cell(t: Text, d: Device, p: usize, row: usize) -> Text
     requires { ⌜ p < 3 ⌝ }
@@ -46,24 +42,19 @@ fn port_cell(t: Text, d: Device, p: usize, row: usize) -> Text
 pub fn port_line(d: Device, row: usize) -> Text
     ensures { λ r. ⌜ r ≡ typed noText (portLine d row) ⌝ }
 {
-    let t = port_label(row);
+    let t = label(&PORT_LABELS, row);
     let a = port_cell(t, d, 0, row);
     let b = port_cell(a, d, 1, row);
     push(port_cell(b, d, 2, row), b'\n')
 }
 
-fn pattern_label(row: usize) -> Text
-    ensures { λ r. ⌜ r ≡ typed noText (patternLabel row) ⌝ }
-{
-    let t = lines::no_text();
-    match row {
-        0 => word(t, b"pattern         "),
-        1 => word(t, b"  polarity      "),
-        2 => word(t, b"  transition    "),
-        3 => word(t, b"  mask          "),
-        _ => word(t, b"PMF             "),
-    }
-}
+const PATTERN_LABELS: [[u8; 16]; 5] = [
+    *b"pattern         ",
+    *b"  polarity      ",
+    *b"  transition    ",
+    *b"  mask          ",
+    *b"PMF             ",
+];
 
 fn pattern_mode(t: Text, mode: u8) -> Text
     ensures { λ r. ⌜ r ≡ typed t (patternMode mode) ⌝ }
@@ -92,7 +83,7 @@ pub fn pattern_line(d: Device, row: usize) -> Text
 {
     let qa = d.patterns[0];
     let qb = d.patterns[1];
-    let t = pattern_label(row);
+    let t = label(&PATTERN_LABELS, row);
     let a = pattern_cell(t, qa, row);
     push(pattern_cell(a, qb, row), b'\n')
 }

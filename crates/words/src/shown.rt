@@ -1,8 +1,7 @@
 // A device in words, line by line.
 ghost use mathlib.Core.Path.{_≡_};
-ghost use Rattle.lines.specs.Kept.{noText, typed};
+ghost use Rattle.texts.specs.Kept.{noText, typed};
 ghost use Rattle.words.specs.Shown.{headLine, tailLine, shownLine};
-use crate::cells::word;
 use crate::counters_shown::counter_line;
 use crate::heads::acknowledge_line;
 use crate::heads::levels_line;
@@ -12,8 +11,9 @@ use crate::heads::request_line;
 use crate::ports_shown::pattern_line;
 use crate::ports_shown::port_line;
 use crate::sources_shown::source_line;
-use lines::Text;
+use phrases::word;
 use rules::Device;
+use texts::Text;
 
 // The lines above the ports' columns.
 fn head_line(d: Device, n: usize) -> Text
@@ -23,7 +23,7 @@ fn head_line(d: Device, n: usize) -> Text
         0 => master_line(d.master),
         1 => link_line(d.config % 4),
         _ => word(
-            lines::no_text(),
+            texts::no_text(),
             b"port                       A           B           C\n",
         ),
     }
@@ -55,7 +55,7 @@ pub fn line(d: Device, n: usize) -> Text
     }
     if n < 16 {
         return word(
-            lines::no_text(),
+            texts::no_text(),
             b"counter                  CT1         CT2         CT3\n",
         );
     }
@@ -64,7 +64,7 @@ pub fn line(d: Device, n: usize) -> Text
     }
     if n < 32 {
         return word(
-            lines::no_text(),
+            texts::no_text(),
             b"source                   CT3           A         CT2           B         CT1\n",
         );
     }

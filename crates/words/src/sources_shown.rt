@@ -1,37 +1,31 @@
 // The sources, a fact a line: its label, and a column for each source in the order of priority.
 ghost use mathlib.Core.Path.{_≡_};
-ghost use Rattle.lines.specs.Kept.{noText, typed};
-ghost use Rattle.words.specs.Shown.{sourceLabel, sourceCell, sourceLine};
+ghost use Rattle.texts.specs.Kept.{noText, typed};
+ghost use Rattle.words.specs.Shown.{sourceCell, sourceLine};
 use crate::cells::bit_cell;
-use crate::cells::word;
-use lines::Text;
-use lines::push;
+use crate::cells::label;
+use phrases::word;
 use rules::Device;
 use rules::Source;
+use texts::Text;
+use texts::push;
 
-fn source_label(row: usize) -> Text
-    ensures { λ r. ⌜ r ≡ typed noText (sourceLabel row) ⌝ }
-{
-    let t = lines::no_text();
-    match row {
-        0 => word(t, b"IE              "),
-        1 => word(t, b"IP              "),
-        2 => word(t, b"IUS             "),
-        3 => word(t, b"ERR             "),
-        _ => word(t, b"hidden error    "),
-    }
-}
+const LABELS: [[u8; 16]; 5] = [
+    *b"IE              ",
+    *b"IP              ",
+    *b"IUS             ",
+    *b"ERR             ",
+    *b"hidden error    ",
+];
 
 fn source_cell(t: Text, s: Source, row: usize) -> Text
     ensures { λ r. ⌜ r ≡ typed t (sourceCell s row) ⌝ }
 {
-    match row {
-        0 => bit_cell(t, s.ie),
-        1 => bit_cell(t, s.ip),
-        2 => bit_cell(t, s.ius),
-        3 => bit_cell(t, s.err),
-        _ => bit_cell(t, s.hidden),
+    let flags = [s.ie, s.ip, s.ius, s.err, s.hidden];
+    if row < 5 {
+        return bit_cell(t, flags[row]);
     }
+    bit_cell(t, false)
 }
 
 pub fn source_line(d: Device, row: usize) -> Text
@@ -42,7 +36,7 @@ pub fn source_line(d: Device, row: usize) -> Text
     let s2 = d.sources[2];
     let s3 = d.sources[3];
     let s4 = d.sources[4];
-    let t0 = source_cell(source_label(row), s0, row);
+    let t0 = source_cell(label(&LABELS, row), s0, row);
     let t1 = source_cell(t0, s1, row);
     let t2 = source_cell(t1, s2, row);
     let t3 = source_cell(t2, s3, row);

@@ -1,5 +1,4 @@
-use native.Mathlib.Omega.{arith}
-use mathlib.Core.Path.{_≡_}
+use borrow.Author.Tests.{ne-eqb}
 use Rattle.rules.specs.Registers.{counterOn}
 use Rattle.device.proofs.counter_on.Statement.{statement}
 use Rattle.device.proofs.counter_on.Tie as tie
@@ -14,7 +13,7 @@ returns-2 c = simp (c .if2 .taken)
 
 returns-3 : tie.Need-returns-3
 unfolding counterOn
-returns-3 c = let e : c .before .before .args .i ≡ 2 = omega arith in simp e
+returns-3 c = simp (ne-eqb _ _ (c .before .if1 .left), ne-eqb _ _ (c .if2 .left))
 
 pub counter-on-spec : {M : Type 1} → statement M
 counter-on-spec = tie.close (tie.spec returns returns-2 returns-3)

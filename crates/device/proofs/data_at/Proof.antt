@@ -4,11 +4,8 @@ use borrow.Author.Needs.{needs}
 use Rattle.device.proofs.data_at.Statement.{statement}
 use Rattle.device.proofs.data_at.Tie as tie
 
-mul-q : tie.Need-mul-q
-mul-q c = search needs
-
-element-copy-out-q : tie.Need-element-copy-out-q
-element-copy-out-q c = search needs
+port-at-requires : tie.Need-port-at-requires
+port-at-requires c κs = search needs
 
 port-enabled-requires : tie.Need-port-enabled-requires
 port-enabled-requires c κs = search needs
@@ -27,9 +24,9 @@ unfolding dataAt
 returns c =
     let b2 = c .before .before in
     let b3 = b2 .before in
-    let b5 = b3 .before .before in
+    let b4 = b3 .before in
     simp
-    (c .seen .ensures, c .before .level .ensures, b2 .pins-at .ensures, b3 .port-enabled .ensures, b5 .if1 .taken)
+    (c .seen .ensures, c .before .level .ensures, b2 .pins-at .ensures, b3 .port-enabled .ensures, b4 .port-at .ensures, b4 .before .if1 .taken)
 
 seen-at-requires : tie.Need-seen-at-requires
 seen-at-requires c κs = search needs
@@ -42,8 +39,7 @@ pub data-at-spec : {M : Type 1} → statement M
 data-at-spec =
     tie.close
     (tie.spec
-    mul-q
-    element-copy-out-q
+    port-at-requires
     port-enabled-requires
     pins-at-requires
     level-requires

@@ -3,11 +3,8 @@ use borrow.Author.Needs.{needs}
 use Rattle.device.proofs.path_at.Statement.{statement}
 use Rattle.device.proofs.path_at.Tie as tie
 
-mul-q : tie.Need-mul-q
-mul-q c = search needs
-
-element-copy-out-q : tie.Need-element-copy-out-q
-element-copy-out-q c = search needs
+port-at-requires : tie.Need-port-at-requires
+port-at-requires c κs = search needs
 
 value-at-requires : tie.Need-value-at-requires
 value-at-requires c κs = search needs
@@ -23,14 +20,17 @@ path-requires c κs = search needs
 
 returns : tie.Need-returns
 unfolding pathAt pinsAt
-returns c = simp (c .path .ensures, c .before .pins .ensures, c .before .before .before .value-at .ensures, c .before .before .port-enabled .ensures)
+returns c =
+    let b2 = c .before .before in
+    let b3 = b2 .before in
+    simp
+    (c .path .ensures, c .before .pins .ensures, b2 .port-enabled .ensures, b3 .value-at .ensures, b3 .before .port-at .ensures)
 
 pub path-at-spec : {M : Type 1} → statement M
 path-at-spec =
     tie.close
     (tie.spec
-    mul-q
-    element-copy-out-q
+    port-at-requires
     value-at-requires
     port-enabled-requires
     pins-requires

@@ -4,15 +4,12 @@ use borrow.Author.Needs.{needs}
 use Rattle.device.proofs.value_at.Statement.{statement}
 use Rattle.device.proofs.value_at.Tie as tie
 
-mul-x : tie.Need-mul-x
-mul-x c = search needs
-
-element-copy-out-x : tie.Need-element-copy-out-x
-element-copy-out-x c = search needs
+port-at-requires : tie.Need-port-at-requires
+port-at-requires c κs = search needs
 
 returns : tie.Need-returns
 unfolding valueAt
-returns c = simp (c .if1 .taken)
+returns c = simp (c .before .port-at .ensures, c .if1 .taken)
 
 element-copy-out-c1 : tie.Need-element-copy-out-c1
 element-copy-out-c1 c = search needs
@@ -28,7 +25,9 @@ stand-requires-2 c κs = search needs
 
 returns-2 : tie.Need-returns-2
 unfolding valueAt
-returns-2 c = simp (c .stand2 .ensures, c .before .stand .ensures, c .before .before .before .before .if2 .taken)
+returns-2 c =
+    let t = c .before .before .before .before in
+    simp (c .stand2 .ensures, c .before .stand .ensures, t .if2 .taken, t .before .before .port-at .ensures)
 
 element-copy-out-c3 : tie.Need-element-copy-out-c3
 element-copy-out-c3 c = search needs
@@ -38,14 +37,16 @@ stand-requires-3 c κs = search needs
 
 returns-3 : tie.Need-returns-3
 unfolding valueAt
-returns-3 c = simp (c .stand3 .ensures, ne-eqb _ _ (c .before .before .before .if1 .left), ne-eqb _ _ (c .before .before .if2 .left))
+returns-3 c =
+    let e = c .before .before in
+    simp
+    (c .stand3 .ensures, ne-eqb _ _ (e .before .if1 .left), ne-eqb _ _ (e .if2 .left), e .before .before .port-at .ensures)
 
 pub value-at-spec : {M : Type 1} → statement M
 value-at-spec =
     tie.close
     (tie.spec
-    mul-x
-    element-copy-out-x
+    port-at-requires
     returns
     element-copy-out-c1
     element-copy-out-c2

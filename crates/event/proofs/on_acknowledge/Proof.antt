@@ -2,7 +2,7 @@ use native.Mathlib.Omega.{arith}
 use borrow.Author.Tests.{ne-eqb}
 use mathlib.Core.Path.{_≡_, refl, sym, _∙_}
 use Rattle.event.proofs.Ways.{refuses, accepts, code-acknowledge, acknowledge-done}
-use Rattle.rules.specs.Interrupts.{acknowledged, acknowledge}
+use Rattle.rules.specs.Interrupts.{acknowledged}
 use Rattle.rules.specs.Events.{acknowledgeDone}
 use borrow.Author.Needs.{needs}
 use Rattle.event.proofs.on_acknowledge.Statement.{statement}
@@ -11,8 +11,8 @@ use Rattle.event.proofs.on_acknowledge.Tie as tie
 requester-of-requires : tie.Need-requester-of-requires
 requester-of-requires c κs = search needs
 
-acknowledge-by-requires : tie.Need-acknowledge-by-requires
-acknowledge-by-requires c κs = search needs
+acknowledge-requires : tie.Need-acknowledge-requires
+acknowledge-requires c κs = search needs
 
 mul-serve : tie.Need-mul-serve
 mul-serve c = search needs
@@ -33,7 +33,7 @@ accepted-requires : tie.Need-accepted-requires
 accepted-requires c κs = search needs
 
 returns : tie.Need-returns
-unfolding acknowledgeDone acknowledged acknowledge
+unfolding acknowledgeDone acknowledged
 returns c =
     let b3 = c .before .before .before in
     let b5 = b3 .before .before in
@@ -41,13 +41,13 @@ returns c =
     c .accepted .ensures
     ∙ accepts _ _
     (code-acknowledge _ _ (b6 .pre .0) (b6 .pre .1) ∙ (simp (← b5 .requester-of .ensures .0, ne-eqb (b5 .requester-of .result) 5 (λ z. omega arith))))
-    (sym (acknowledge-done _ _ (b6 .pre .1) ∙ (simp (c .before .serve .ensures, b3 .acknowledge-by .ensures, b5 .requester-of .ensures .0))))
+    (sym (acknowledge-done _ _ (b6 .pre .1) ∙ (simp (c .before .serve .ensures, b3 .acknowledge .ensures, b5 .requester-of .ensures .0))))
 
 refused-requires : tie.Need-refused-requires
 refused-requires c κs = search needs
 
 returns-2 : tie.Need-returns-2
-unfolding acknowledgeDone acknowledged acknowledge
+unfolding acknowledgeDone acknowledged
 returns-2 c =
     let b2 = c .before .before in
     let b3 = b2 .before in
@@ -61,7 +61,7 @@ on-acknowledge-spec =
     tie.close
     (tie.spec
     requester-of-requires
-    acknowledge-by-requires
+    acknowledge-requires
     mul-serve
     element-copy-out-serve
     serve-requires

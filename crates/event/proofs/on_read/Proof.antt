@@ -1,4 +1,3 @@
-use Rattle.access.proofs.Placed.{placed}
 use native.Mathlib.Nat.{div-one}
 use borrow.Author.Tests.{lt-ltb, le-ltb}
 use mathlib.Core.Path.{refl, sym, _∙_}
@@ -30,16 +29,11 @@ returns-2 c =
     ∙ accepts _ _ (code-read _ _ (b6 .pre .0) (b6 .pre .1) ∙ (simp (le-ltb _ _ (b4 .if1 .left))))
     (sym (read-done _ _ (b6 .pre .1) ∙ (simp (div-one, c .before .if2 .taken))))
 
-kind-of-requires : tie.Need-kind-of-requires
-kind-of-requires c κs = search needs
-
 after-read-requires : tie.Need-after-read-requires
-unfolding readDone
-after-read-requires c κs = rw (c .kind-of .ensures) (placed _)
+after-read-requires c κs = search needs
 
 read-requires : tie.Need-read-requires
-unfolding readDone
-read-requires c κs = rw (c .before .kind-of .ensures) (placed _)
+read-requires c κs = search needs
 
 accepted-requires-2 : tie.Need-accepted-requires-2
 accepted-requires-2 c κs = search needs
@@ -49,12 +43,11 @@ unfolding readDone
 returns-3 c =
     let b2 = c .before .before in
     let b3 = b2 .before in
-    let b4 = b3 .before in
-    let b7 = b4 .before .before .before in
-    let b9 = b7 .before .before in
+    let b6 = b3 .before .before .before in
+    let b8 = b6 .before .before in
     c .accepted2 .ensures
-    ∙ accepts _ _ (code-read _ _ (b9 .pre .0) (b9 .pre .1) ∙ (simp (le-ltb _ _ (b7 .if1 .left))))
-    (sym (read-done _ _ (b9 .pre .1) ∙ (simp (div-one, b4 .if2 .left, b2 .after-read .ensures, c .before .read .ensures, b3 .kind-of .ensures))))
+    ∙ accepts _ _ (code-read _ _ (b8 .pre .0) (b8 .pre .1) ∙ (simp (le-ltb _ _ (b6 .if1 .left))))
+    (sym (read-done _ _ (b8 .pre .1) ∙ (simp (div-one, b3 .if2 .left, b2 .after-read .ensures, c .before .read .ensures))))
 
 pub on-read-spec : {M : Type 1} → statement M
 on-read-spec =
@@ -64,7 +57,6 @@ on-read-spec =
     returns
     accepted-requires
     returns-2
-    kind-of-requires
     after-read-requires
     read-requires
     accepted-requires-2

@@ -1,4 +1,3 @@
-use Rattle.access.proofs.Placed.{placed}
 use native.Mathlib.Nat.{div-one}
 use borrow.Author.Tests.{lt-ltb, le-ltb}
 use mathlib.Core.Path.{refl, sym, _∙_}
@@ -97,8 +96,7 @@ cast-write : tie.Need-cast-write
 cast-write c = search needs
 
 write-requires : tie.Need-write-requires
-unfolding writeDone
-write-requires c κs = rw (c .before .before .before .before .kind-of .ensures) (placed _)
+write-requires c κs = search needs
 
 step-requires : tie.Need-step-requires
 step-requires c κs = search needs
@@ -109,20 +107,20 @@ accepted-requires-2 c κs = search needs
 returns-6 : tie.Need-returns-6
 unfolding writeDone
 returns-6 c =
-    let b2 = c .before .before in
-    let b3 = b2 .before in
-    let b4 = b3 .before in
-    let b5 = b4 .before in
-    let b6 = b5 .before in
-    let b7 = b6 .before in
-    let b8 = b7 .before in
-    let b11 = b8 .before .before .before in
-    let b12 = b11 .before in
-    let b14 = b12 .before .before in
+    let at-write = c .before .before in
+    let at-if5 = at-write .before in
+    let at-later = at-if5 .before in
+    let at-if4 = at-later .before in
+    let at-read-only = at-if4 .before in
+    let at-kind = at-read-only .before in
+    let at-if3 = at-kind .before in
+    let at-if2 = at-if3 .before .before .before in
+    let at-if1 = at-if2 .before in
+    let start = at-if1 .before .before in
     c .accepted2 .ensures
     ∙ accepts _ _
-    (code-write _ _ (b14 .pre .0) (b14 .pre .1) ∙ (simp (le-ltb _ _ (b12 .if1 .left), le-ltb _ _ (b11 .if2 .left), div-one, b8 .if3 .left, ← b7 .kind-of .ensures, ← b6 .read-only .ensures, b5 .if4 .left, ← b4 .is-later .ensures, b3 .if5 .left)))
-    (sym (write-done _ _ (b14 .pre .1) ∙ (simp (div-one, b8 .if3 .left, c .before .step .ensures, b2 .write .ensures, b7 .kind-of .ensures))))
+    (code-write _ _ (start .pre .0) (start .pre .1) ∙ (simp (le-ltb _ _ (at-if1 .if1 .left), le-ltb _ _ (at-if2 .if2 .left), div-one, at-if3 .if3 .left, ← at-kind .kind-of .ensures, ← at-read-only .read-only .ensures, at-if4 .if4 .left, ← at-later .is-later .ensures, at-if5 .if5 .left)))
+    (sym (write-done _ _ (start .pre .1) ∙ (simp (div-one, at-if3 .if3 .left, c .before .step .ensures, at-write .write .ensures))))
 
 pub on-write-spec : {M : Type 1} → statement M
 on-write-spec =

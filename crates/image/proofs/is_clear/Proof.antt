@@ -13,7 +13,7 @@ part-registers-clear-end : tie.Need-part-registers-clear-end
 part-registers-clear-end c = search needs
 
 registers-clear-requires : tie.Need-registers-clear-requires
-registers-clear-requires c κs = search needs
+registers-clear-requires c κs = tt
 
 sub-counts-clear : tie.Need-sub-counts-clear
 sub-counts-clear c = search needs
@@ -25,7 +25,7 @@ part-counts-clear-end : tie.Need-part-counts-clear-end
 part-counts-clear-end c = search needs
 
 counts-clear-requires : tie.Need-counts-clear-requires
-counts-clear-requires c κs = search needs
+counts-clear-requires c κs = tt
 
 sub-pins-clear : tie.Need-sub-pins-clear
 sub-pins-clear c = search needs
@@ -37,7 +37,7 @@ part-pins-clear-end : tie.Need-part-pins-clear-end
 part-pins-clear-end c = search needs
 
 pins-clear-requires : tie.Need-pins-clear-requires
-pins-clear-requires c κs = search needs
+pins-clear-requires c κs = tt
 
 sub-lines-clear : tie.Need-sub-lines-clear
 sub-lines-clear c = search needs
@@ -49,7 +49,7 @@ part-lines-clear-end : tie.Need-part-lines-clear-end
 part-lines-clear-end c = search needs
 
 lines-clear-requires : tie.Need-lines-clear-requires
-lines-clear-requires c κs = search needs
+lines-clear-requires c κs = tt
 
 returns : tie.Need-returns
 unfolding clearIn

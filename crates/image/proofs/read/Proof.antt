@@ -13,7 +13,7 @@ part-read-registers-end : tie.Need-part-read-registers-end
 part-read-registers-end c = search needs
 
 read-registers-requires : tie.Need-read-registers-requires
-read-registers-requires c κs = search needs
+read-registers-requires c κs = tt
 
 sub-read-counts : tie.Need-sub-read-counts
 sub-read-counts c = search needs
@@ -25,7 +25,7 @@ part-read-counts-end : tie.Need-part-read-counts-end
 part-read-counts-end c = search needs
 
 read-counts-requires : tie.Need-read-counts-requires
-read-counts-requires c κs = search needs
+read-counts-requires c κs = tt
 
 sub-read-pins : tie.Need-sub-read-pins
 sub-read-pins c = search needs
@@ -37,7 +37,7 @@ part-read-pins-end : tie.Need-part-read-pins-end
 part-read-pins-end c = search needs
 
 read-pins-requires : tie.Need-read-pins-requires
-read-pins-requires c κs = search needs
+read-pins-requires c κs = tt
 
 sub-read-lines : tie.Need-sub-read-lines
 sub-read-lines c = search needs
@@ -49,7 +49,7 @@ part-read-lines-end : tie.Need-part-read-lines-end
 part-read-lines-end c = search needs
 
 read-lines-requires : tie.Need-read-lines-requires
-read-lines-requires c κs = search needs
+read-lines-requires c κs = tt
 
 returns : tie.Need-returns
 unfolding deviceIn

@@ -6,12 +6,12 @@ use borrow.Author.Needs.{needs}
 use Rattle.interrupts.proofs.vector_read.Statement.{statement}
 use Rattle.interrupts.proofs.vector_read.Tie as tie
 
-element-copy-out-base : tie.Need-element-copy-out-base
-element-copy-out-base c = search needs
+vector-at-requires : tie.Need-vector-at-requires
+vector-at-requires c κs = search needs
 
 returns : tie.Need-returns
 unfolding vectorRead
-returns c = simp (c .if1 .taken)
+returns c = simp (c .before .before .vector-at .ensures, c .if1 .taken)
 
 with-status-requires : tie.Need-with-status-requires
 with-status-requires c κs = search needs
@@ -45,13 +45,20 @@ returns-4 c =
 
 returns-5 : tie.Need-returns-5
 unfolding vectorRead
-returns-5 c = let z : c .before .pending-counter .result ≡ 5 = omega (arith, c .before .pending-counter .ensures .1) in simp (c .before .before .before .before .if1 .left, ne-eqb _ _ (c .before .before .before .if2 .left), ne-eqb _ _ (c .before .before .if3 .left), ← c .before .pending-counter .ensures .0, z)
+returns-5 c =
+    let k = c .before .pending-counter in
+    let b2 = c .before .before in
+    let b3 = b2 .before in
+    let b4 = b3 .before in
+    let z : k .result ≡ 5 = omega (arith, k .ensures .1) in
+    simp
+    (b4 .before .before .vector-at .ensures, b4 .if1 .left, ne-eqb _ _ (b3 .if2 .left), ne-eqb _ _ (b2 .if3 .left), ← k .ensures .0, z)
 
 pub vector-read-spec : {M : Type 1} → statement M
 vector-read-spec =
     tie.close
     (tie.spec
-    element-copy-out-base
+    vector-at-requires
     returns
     with-status-requires
     returns-2

@@ -2,17 +2,19 @@ use Prim.Native.Nat.{ℕ}
 use mathlib.Core.Path.{refl, sym, ap, _∙_}
 use mathlib.Core.List.{List}
 use lib.ListN.{replicate}
+use Rattle.rules.specs.Record.{Shaped}
 use Rattle.image.specs.declared.Restored.{Restored}
-use Rattle.image.specs.Image.{restoredOf, Fits}
+use Rattle.image.specs.Image.{restoredOf}
 use Rattle.image.proofs.Answers.{unsound, saved-sound}
-use Rattle.overnight.proofs.Night.{length-mapped, kept}
+use Rattle.bits.proofs.Arrays.{length-mapped}
+use Rattle.overnight.proofs.Night.{kept}
 use borrow.Author.Needs.{needs}
 use Rattle.overnight.proofs.overnight.Statement.{statement}
 use Rattle.overnight.proofs.overnight.Tie as tie
 
 -- the record has the lengths of the struct
-fits : (c : tie.Start) → Fits (c .args .d)
-fits c = record { vectors = search needs; ports = search (needs, length-mapped); patterns = search (needs, length-mapped); counters = search (needs, length-mapped); sources = search (needs, length-mapped) }
+shaped : (c : tie.Start) → Shaped (c .args .d)
+shaped c = record { vectors = search needs; ports = search (needs, length-mapped); patterns = search (needs, length-mapped); counters = search (needs, length-mapped); sources = search (needs, length-mapped) }
 
 slice-aggregate-save : tie.Need-slice-aggregate-save
 slice-aggregate-save c = search needs
@@ -43,7 +45,7 @@ returns-2 c =
     let h = sym (n .ensures .0) ∙ c .before .before .before .if1 .left in
     ap (λ (r : Restored). r .device) (c .before .restore .ensures)
     ∙ ap (λ (l : List ℕ). restoredOf l .device) (n .ensures .1)
-    ∙ kept d e refl (fits a) h
+    ∙ kept d e refl (shaped a) h
     ∙ simp (saved-sound d 84 h)
 
 pub overnight-spec : {M : Type 1} → statement M

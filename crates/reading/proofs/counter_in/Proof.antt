@@ -1,92 +1,73 @@
 use Rattle.bodies.specs.Taken.{counterIn}
+use native.Mathlib.Nat.{div-one}
 use borrow.Author.Needs.{needs}
 use Rattle.reading.proofs.counter_in.Statement.{statement}
 use Rattle.reading.proofs.counter_in.Tie as tie
 
-add-command : tie.Need-add-command
-add-command c = search needs
+add-byte-at : tie.Need-add-byte-at
+add-byte-at c = search needs
 
-shared-slice-read-command : tie.Need-shared-slice-read-command
-shared-slice-read-command c = search needs
+byte-at-requires : tie.Need-byte-at-requires
+byte-at-requires c κs = tt
 
-add-t4 : tie.Need-add-t4
-add-t4 c = search needs
+add-byte-at-2 : tie.Need-add-byte-at-2
+add-byte-at-2 c = search needs
 
-shared-slice-read-t6 : tie.Need-shared-slice-read-t6
-shared-slice-read-t6 c = search needs
+byte-at-requires-2 : tie.Need-byte-at-requires-2
+byte-at-requires-2 c κs = tt
 
-mul-word : tie.Need-mul-word
-mul-word c = search needs
+mul-word-at : tie.Need-mul-word-at
+mul-word-at c = search needs
 
-add-word : tie.Need-add-word
-add-word c = search needs
+add-word-at : tie.Need-add-word-at
+add-word-at c = search needs
 
-shared-slice-read-word : tie.Need-shared-slice-read-word
-shared-slice-read-word c = search needs
+mul-word-at-2 : tie.Need-mul-word-at-2
+mul-word-at-2 c = search needs
 
-mul-word-2 : tie.Need-mul-word-2
-mul-word-2 c = search needs
+add-word-at-2 : tie.Need-add-word-at-2
+add-word-at-2 c = search needs
 
-add-word-2 : tie.Need-add-word-2
-add-word-2 c = search needs
+word-at-requires : tie.Need-word-at-requires
+word-at-requires c κs = tt
 
-shared-slice-read-word-2 : tie.Need-shared-slice-read-word-2
-shared-slice-read-word-2 c = search needs
+mul-word-at-3 : tie.Need-mul-word-at-3
+mul-word-at-3 c = search needs
 
-word-requires : tie.Need-word-requires
-word-requires c κs = search needs
+add-word-at-3 : tie.Need-add-word-at-3
+add-word-at-3 c = search needs
 
-mul-word-3 : tie.Need-mul-word-3
-mul-word-3 c = search needs
+mul-word-at-4 : tie.Need-mul-word-at-4
+mul-word-at-4 c = search needs
 
-add-word-3 : tie.Need-add-word-3
-add-word-3 c = search needs
+add-word-at-4 : tie.Need-add-word-at-4
+add-word-at-4 c = search needs
 
-shared-slice-read-word-3 : tie.Need-shared-slice-read-word-3
-shared-slice-read-word-3 c = search needs
-
-mul-word-4 : tie.Need-mul-word-4
-mul-word-4 c = search needs
-
-add-word-4 : tie.Need-add-word-4
-add-word-4 c = search needs
-
-shared-slice-read-word-4 : tie.Need-shared-slice-read-word-4
-shared-slice-read-word-4 c = search needs
-
-word-requires-2 : tie.Need-word-requires-2
-word-requires-2 c κs = search needs
-
-low-requires : tie.Need-low-requires
-low-requires c κs = search needs
+word-at-requires-2 : tie.Need-word-at-requires-2
+word-at-requires-2 c κs = tt
 
 returns : tie.Need-returns
 unfolding counterIn
 returns c =
-    let p1 = c .before .before .before .before in
-    simp (c .low .ensures, c .before .word2 .ensures, p1 .word .ensures)
+    let p1 = c .before .before .before in
+    simp (div-one, c .word-at2 .ensures, c .before .word-at .ensures, c .before .before .byte-at2 .ensures, p1 .byte-at .ensures)
 
 pub counter-in-spec : {M : Type 1} → statement M
 counter-in-spec =
     tie.close
     (tie.spec
-    add-command
-    shared-slice-read-command
-    add-t4
-    shared-slice-read-t6
-    mul-word
-    add-word
-    shared-slice-read-word
-    mul-word-2
-    add-word-2
-    shared-slice-read-word-2
-    word-requires
-    mul-word-3
-    add-word-3
-    shared-slice-read-word-3
-    mul-word-4
-    add-word-4
-    shared-slice-read-word-4
-    word-requires-2
-    low-requires
+    add-byte-at
+    byte-at-requires
+    add-byte-at-2
+    byte-at-requires-2
+    mul-word-at
+    add-word-at
+    mul-word-at-2
+    add-word-at-2
+    word-at-requires
+    mul-word-at-3
+    add-word-at-3
+    mul-word-at-4
+    add-word-at-4
+    word-at-requires-2
     returns)

@@ -1,6 +1,6 @@
 use mathlib.Core.Path.{sym, _∙_}
 use borrow.Author.Needs.{needs}
-use Rattle.theorems.proofs.Shapes.{Shaped}
+use Rattle.rules.specs.Record.{Shaped}
 use Rattle.theorems.proofs.Same.{same-is}
 use Rattle.runs.proofs.Lists.{of-map}
 use Rattle.runner.proofs.came_back.Statement.{statement}

@@ -7,7 +7,8 @@ use native.Mathlib.Omega.{arith}
 use borrow.Author.Needs.{needs}
 use lib.ListN.{length}
 use denote.Ref.{now}
-use Rattle.lines.specs.Answers.{answerText, fits, laidOf}
+use Rattle.texts.specs.Answers.{answerText}
+use Rattle.rules.specs.Buffer.{fits, laidOf}
 use Rattle.session.specs.Sessions.{outcomeBy, answersLast}
 use Rattle.session.proofs.Telling.{last-none, last-some, laid-none, laid-within, zero-both}
 use Rattle.session.proofs.finish.Statement.{statement}

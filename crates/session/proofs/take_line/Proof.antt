@@ -1,7 +1,7 @@
 use mathlib.Core.Path.{sym, ap, _∙_}
 use borrow.Author.Needs.{needs}
 use denote.Ref.{now}
-use Rattle.lines.specs.Answers.{laidOf}
+use Rattle.rules.specs.Buffer.{laidOf}
 use Rattle.session.proofs.Telling.{whole-line, whole-fed, part-line, part-fed, laid-none}
 use Rattle.session.proofs.take_line.Statement.{statement}
 use Rattle.session.proofs.take_line.Tie as tie

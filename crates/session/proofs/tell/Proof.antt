@@ -7,9 +7,10 @@ use lib.ListN.{length}
 use denote.Ref.{now}
 use Rattle.rules.specs.Events.{eventOf}
 use Rattle.rules.specs.declared.Outcome.{Outcome}
-use Rattle.lines.proofs.Printed.{answer-bytes}
-use Rattle.lines.specs.Answers.{answerText, fits, laidOf}
-use Rattle.lines.specs.Kept.{bytesOf}
+use Rattle.texts.proofs.Printed.{answer-bytes}
+use Rattle.texts.specs.Answers.{answerText}
+use Rattle.rules.specs.Buffer.{fits, laidOf}
+use Rattle.texts.specs.Kept.{bytesOf}
 use Rattle.lines.specs.Lines.{eventIn}
 use Rattle.session.specs.Sessions.{outcomeBy}
 use Rattle.session.proofs.tell.Statement.{statement}

@@ -4,7 +4,7 @@ use native.Mathlib.Omega.{arith}
 use lib.ListN.{length, drop}
 use denote.Ref.{now}
 use Rattle.lines.specs.Pieces.{cutFrom}
-use Rattle.lines.specs.declared.Text.{Text}
+use Rattle.texts.specs.declared.Text.{Text}
 use Rattle.lines.proofs.Cutting.{cut-whole, cut-more, cut-none}
 use Rattle.lines.proofs.pieces.cut_from.Statement.{statement}
 use Rattle.lines.proofs.pieces.cut_from.Tie as tie

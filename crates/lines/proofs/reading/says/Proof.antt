@@ -4,7 +4,7 @@ use borrow.Author.Needs.{needs}
 use borrow.Author.Tests.{lt-ltb, le-ltb}
 use lib.ListN.{length}
 use lib.Seq.{length-take-le}
-use Rattle.lines.specs.Kept.{keptLen, bytesOf}
+use Rattle.texts.specs.Kept.{keptLen, bytesOf}
 use Rattle.lines.specs.Lines.{saysOf}
 use Rattle.lines.proofs.reading.says.Statement.{statement}
 use Rattle.lines.proofs.reading.says.Tie as tie

@@ -1,6 +1,6 @@
 use borrow.Author.Needs.{needs}
 use Rattle.words.specs.Cells.{bitCell}
-use Rattle.words.specs.Spelled.{spelled}
+use Rattle.phrases.specs.Spelled.{spelled}
 use Rattle.words.proofs.cells.bit_cell.Statement.{statement}
 use Rattle.words.proofs.cells.bit_cell.Tie as tie
 

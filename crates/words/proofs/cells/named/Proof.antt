@@ -3,8 +3,8 @@ use mathlib.Core.Path.{ap, _∙_}
 use Prim.Native.Nat.{ℕ}
 use borrow.Author.Needs.{needs}
 use denote.Ref.{now}
-use Rattle.lines.specs.Kept.{pushed}
-use Rattle.lines.specs.declared.Text.{Text}
+use Rattle.texts.specs.Kept.{pushed}
+use Rattle.texts.specs.declared.Text.{Text}
 use Rattle.words.proofs.Typing.{named-is}
 use Rattle.words.proofs.cells.named.Statement.{statement}
 use Rattle.words.proofs.cells.named.Tie as tie

@@ -1,6 +1,6 @@
 use borrow.Author.Needs.{needs}
 use Rattle.words.specs.Shown.{againCell}
-use Rattle.words.specs.Spelled.{spelled}
+use Rattle.phrases.specs.Spelled.{spelled}
 use Rattle.words.proofs.counters_shown.again_cell.Statement.{statement}
 use Rattle.words.proofs.counters_shown.again_cell.Tie as tie
 

@@ -1,12 +1,16 @@
 use borrow.Author.Needs.{needs}
-use Rattle.lines.specs.Kept.{typed}
+use Rattle.texts.specs.Kept.{typed}
 use Rattle.words.specs.Shown.{counterLine}
-use Rattle.lines.proofs.Typing.{typed-append}
+use Rattle.phrases.specs.Spelled.{spelled}
+use Rattle.texts.proofs.Typing.{typed-append}
 use Rattle.words.proofs.counters_shown.counter_line.Statement.{statement}
 use Rattle.words.proofs.counters_shown.counter_line.Tie as tie
 
-counter-label-requires : tie.Need-counter-label-requires
-counter-label-requires c κs = search needs
+slice-aggregate-label : tie.Need-slice-aggregate-label
+slice-aggregate-label c = search needs
+
+label-requires : tie.Need-label-requires
+label-requires c κs = search needs
 
 counter-column-requires : tie.Need-counter-column-requires
 counter-column-requires c κs = search needs
@@ -21,14 +25,15 @@ push-requires : tie.Need-push-requires
 push-requires c κs = search needs
 
 returns : tie.Need-returns
-unfolding typed counterLine
-returns c = simp (typed-append, c .push .ensures, c .before .counter-column3 .ensures, c .before .before .counter-column2 .ensures, c .before .before .before .counter-column .ensures, c .before .before .before .before .counter-label .ensures)
+unfolding typed counterLine spelled
+returns c = simp (typed-append, c .push .ensures, c .before .counter-column3 .ensures, c .before .before .counter-column2 .ensures, c .before .before .before .counter-column .ensures, c .before .before .before .before .label .ensures)
 
 pub counter-line-spec : {M : Type 1} → statement M
 counter-line-spec =
     tie.close
     (tie.spec
-    counter-label-requires
+    slice-aggregate-label
+    label-requires
     counter-column-requires
     counter-column-requires-2
     counter-column-requires-3

@@ -1,6 +1,6 @@
 use borrow.Author.Needs.{needs}
 use Rattle.words.specs.Shown.{halfCell}
-use Rattle.words.specs.Spelled.{spelled}
+use Rattle.phrases.specs.Spelled.{spelled}
 use Rattle.words.proofs.counters_shown.half_cell.Statement.{statement}
 use Rattle.words.proofs.counters_shown.half_cell.Tie as tie
 

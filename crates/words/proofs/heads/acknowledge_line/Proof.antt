@@ -1,18 +1,17 @@
 use borrow.Author.Needs.{needs}
 use borrow.Author.Tests.{lt-ltb, le-ltb}
-use Rattle.rules.specs.Interrupts.{acknowledge}
-use Rattle.lines.specs.Kept.{typed}
-use Rattle.lines.proofs.Typing.{typed-append}
+use Rattle.texts.specs.Kept.{typed}
+use Rattle.texts.proofs.Typing.{typed-append}
 use Rattle.words.specs.Shown.{acknowledgeLine}
-use Rattle.words.specs.Spelled.{spelled}
+use Rattle.phrases.specs.Spelled.{spelled}
 use Rattle.words.proofs.heads.acknowledge_line.Statement.{statement}
 use Rattle.words.proofs.heads.acknowledge_line.Tie as tie
 
 requester-of-requires : tie.Need-requester-of-requires
 requester-of-requires c κs = search needs
 
-acknowledge-by-requires : tie.Need-acknowledge-by-requires
-acknowledge-by-requires c κs = search needs
+acknowledge-requires : tie.Need-acknowledge-requires
+acknowledge-requires c κs = search needs
 
 give-label-requires : tie.Need-give-label-requires
 give-label-requires c κs = search needs
@@ -24,8 +23,8 @@ push-requires : tie.Need-push-requires
 push-requires c κs = search needs
 
 returns : tie.Need-returns
-unfolding typed acknowledgeLine acknowledge
-returns c = simp (typed-append, c .push .ensures, c .before .byte-cell .ensures, c .before .before .give-label .ensures, c .before .before .before .acknowledge-by .ensures, ← c .before .before .before .before .before .requester-of .ensures .0, lt-ltb _ _ (c .before .before .before .before .if1 .taken))
+unfolding typed acknowledgeLine
+returns c = simp (typed-append, c .push .ensures, c .before .byte-cell .ensures, c .before .before .give-label .ensures, c .before .before .before .acknowledge .ensures, ← c .before .before .before .before .before .requester-of .ensures .0, lt-ltb _ _ (c .before .before .before .before .if1 .taken))
 
 no-text-requires : tie.Need-no-text-requires
 no-text-requires c κs = search needs
@@ -45,7 +44,7 @@ acknowledge-line-spec =
     tie.close
     (tie.spec
     requester-of-requires
-    acknowledge-by-requires
+    acknowledge-requires
     give-label-requires
     byte-cell-requires
     push-requires

@@ -1,6 +1,6 @@
 use borrow.Author.Needs.{needs}
 use Rattle.words.specs.Shown.{giveLabel}
-use Rattle.words.specs.Spelled.{spelled}
+use Rattle.phrases.specs.Spelled.{spelled}
 use Rattle.words.proofs.heads.give_label.Statement.{statement}
 use Rattle.words.proofs.heads.give_label.Tie as tie
 

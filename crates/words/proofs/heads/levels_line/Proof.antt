@@ -1,8 +1,8 @@
 use borrow.Author.Needs.{needs}
-use Rattle.lines.specs.Kept.{typed}
+use Rattle.texts.specs.Kept.{typed}
 use Rattle.words.specs.Shown.{levelsLine}
-use Rattle.words.specs.Spelled.{spelled}
-use Rattle.lines.proofs.Typing.{typed-append}
+use Rattle.phrases.specs.Spelled.{spelled}
+use Rattle.texts.proofs.Typing.{typed-append}
 use Rattle.words.proofs.heads.levels_line.Statement.{statement}
 use Rattle.words.proofs.heads.levels_line.Tie as tie
 

@@ -1,9 +1,8 @@
 use borrow.Author.Needs.{needs}
 use native.Mathlib.Nat.{div-one}
-use Rattle.lines.specs.Kept.{typed}
 use Rattle.words.specs.Shown.{masterLine}
-use Rattle.words.specs.Spelled.{spelled}
-use Rattle.lines.proofs.Typing.{typed-append}
+use Rattle.phrases.specs.Spelled.{spelled}
+use Rattle.words.proofs.Typing.{begun, more, ended}
 use Rattle.words.proofs.heads.master_line.Statement.{statement}
 use Rattle.words.proofs.heads.master_line.Tie as tie
 
@@ -62,8 +61,26 @@ push-requires : tie.Need-push-requires
 push-requires c κs = search needs
 
 returns : tie.Need-returns
-unfolding typed masterLine spelled
-returns c = simp (typed-append, c .push .ensures, c .before .named8 .ensures, c .before .before .before .named7 .ensures, c .before .before .before .before .before .named6 .ensures, c .before .before .before .before .before .before .before .named5 .ensures, c .before .before .before .before .before .before .before .before .before .named4 .ensures, c .before .before .before .before .before .before .before .before .before .before .before .named3 .ensures, c .before .before .before .before .before .before .before .before .before .before .before .before .before .named2 .ensures, c .before .before .before .before .before .before .before .before .before .before .before .before .before .before .before .named .ensures, c .before .before .before .before .before .before .before .before .before .before .before .before .before .before .before .before .before .no-text .ensures, div-one)
+unfolding masterLine spelled
+returns c =
+    let p8 = c .before in
+    let p7 = p8 .before .before in
+    let p6 = p7 .before .before in
+    let p5 = p6 .before .before in
+    let p4 = p5 .before .before in
+    let p3 = p4 .before .before in
+    let p2 = p3 .before .before in
+    let p1 = p2 .before .before in
+    let p0 = p1 .before .before in
+    let l1 = begun _ (p0 .no-text .ensures) (p1 .named .ensures) in
+    let l2 = more _ _ l1 (p2 .named2 .ensures) in
+    let l3 = more _ _ l2 (p3 .named3 .ensures) in
+    let l4 = more _ _ l3 (p4 .named4 .ensures) in
+    let l5 = more _ _ l4 (p5 .named5 .ensures) in
+    let l6 = more _ _ l5 (p6 .named6 .ensures) in
+    let l7 = more _ _ l6 (p7 .named7 .ensures) in
+    let l8 = more _ _ l7 (p8 .named8 .ensures) in
+    simp div-one (ended _ l8 (c .push .ensures))
 
 pub master-line-spec : {M : Type 1} → statement M
 master-line-spec =

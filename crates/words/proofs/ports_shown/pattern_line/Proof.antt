@@ -1,7 +1,8 @@
 use borrow.Author.Needs.{needs}
-use Rattle.lines.specs.Kept.{typed}
+use Rattle.texts.specs.Kept.{typed}
 use Rattle.words.specs.Shown.{patternLine}
-use Rattle.lines.proofs.Typing.{typed-append}
+use Rattle.phrases.specs.Spelled.{spelled}
+use Rattle.texts.proofs.Typing.{typed-append}
 use Rattle.words.proofs.ports_shown.pattern_line.Statement.{statement}
 use Rattle.words.proofs.ports_shown.pattern_line.Tie as tie
 
@@ -11,8 +12,11 @@ element-copy-out-qa c = search needs
 element-copy-out-qb : tie.Need-element-copy-out-qb
 element-copy-out-qb c = search needs
 
-pattern-label-requires : tie.Need-pattern-label-requires
-pattern-label-requires c κs = search needs
+slice-aggregate-label : tie.Need-slice-aggregate-label
+slice-aggregate-label c = search needs
+
+label-requires : tie.Need-label-requires
+label-requires c κs = search needs
 
 pattern-cell-requires : tie.Need-pattern-cell-requires
 pattern-cell-requires c κs = search needs
@@ -24,8 +28,8 @@ push-requires : tie.Need-push-requires
 push-requires c κs = search needs
 
 returns : tie.Need-returns
-unfolding typed patternLine
-returns c = simp (typed-append, c .push .ensures, c .before .pattern-cell2 .ensures, c .before .before .pattern-cell .ensures, c .before .before .before .pattern-label .ensures)
+unfolding typed patternLine spelled
+returns c = simp (typed-append, c .push .ensures, c .before .pattern-cell2 .ensures, c .before .before .pattern-cell .ensures, c .before .before .before .label .ensures)
 
 pub pattern-line-spec : {M : Type 1} → statement M
 pattern-line-spec =
@@ -33,7 +37,8 @@ pattern-line-spec =
     (tie.spec
     element-copy-out-qa
     element-copy-out-qb
-    pattern-label-requires
+    slice-aggregate-label
+    label-requires
     pattern-cell-requires
     pattern-cell-requires-2
     push-requires

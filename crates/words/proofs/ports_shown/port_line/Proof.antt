@@ -1,12 +1,16 @@
 use borrow.Author.Needs.{needs}
-use Rattle.lines.specs.Kept.{typed}
+use Rattle.texts.specs.Kept.{typed}
 use Rattle.words.specs.Shown.{portLine}
-use Rattle.lines.proofs.Typing.{typed-append}
+use Rattle.phrases.specs.Spelled.{spelled}
+use Rattle.texts.proofs.Typing.{typed-append}
 use Rattle.words.proofs.ports_shown.port_line.Statement.{statement}
 use Rattle.words.proofs.ports_shown.port_line.Tie as tie
 
-port-label-requires : tie.Need-port-label-requires
-port-label-requires c κs = search needs
+slice-aggregate-label : tie.Need-slice-aggregate-label
+slice-aggregate-label c = search needs
+
+label-requires : tie.Need-label-requires
+label-requires c κs = search needs
 
 port-cell-requires : tie.Need-port-cell-requires
 port-cell-requires c κs = search needs
@@ -21,14 +25,15 @@ push-requires : tie.Need-push-requires
 push-requires c κs = search needs
 
 returns : tie.Need-returns
-unfolding typed portLine
-returns c = simp (typed-append, c .push .ensures, c .before .port-cell3 .ensures, c .before .before .port-cell2 .ensures, c .before .before .before .port-cell .ensures, c .before .before .before .before .port-label .ensures)
+unfolding typed portLine spelled
+returns c = simp (typed-append, c .push .ensures, c .before .port-cell3 .ensures, c .before .before .port-cell2 .ensures, c .before .before .before .port-cell .ensures, c .before .before .before .before .label .ensures)
 
 pub port-line-spec : {M : Type 1} → statement M
 port-line-spec =
     tie.close
     (tie.spec
-    port-label-requires
+    slice-aggregate-label
+    label-requires
     port-cell-requires
     port-cell-requires-2
     port-cell-requires-3

@@ -1,7 +1,7 @@
 use borrow.Author.Needs.{needs}
 use borrow.Author.Tests.{lt-ltb, le-ltb}
 use Rattle.words.specs.Shown.{shownLine}
-use Rattle.words.specs.Spelled.{spelled}
+use Rattle.phrases.specs.Spelled.{spelled}
 use Rattle.words.proofs.shown.line.Statement.{statement}
 use Rattle.words.proofs.shown.line.Tie as tie
 

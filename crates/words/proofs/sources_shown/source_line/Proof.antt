@@ -1,7 +1,8 @@
 use borrow.Author.Needs.{needs}
-use Rattle.lines.specs.Kept.{typed}
+use Rattle.texts.specs.Kept.{typed}
 use Rattle.words.specs.Shown.{sourceLine}
-use Rattle.lines.proofs.Typing.{typed-append}
+use Rattle.phrases.specs.Spelled.{spelled}
+use Rattle.texts.proofs.Typing.{typed-append}
 use Rattle.words.proofs.sources_shown.source_line.Statement.{statement}
 use Rattle.words.proofs.sources_shown.source_line.Tie as tie
 
@@ -20,8 +21,11 @@ element-copy-out-s3 c = search needs
 element-copy-out-s4 : tie.Need-element-copy-out-s4
 element-copy-out-s4 c = search needs
 
-source-label-requires : tie.Need-source-label-requires
-source-label-requires c κs = search needs
+slice-aggregate-label : tie.Need-slice-aggregate-label
+slice-aggregate-label c = search needs
+
+label-requires : tie.Need-label-requires
+label-requires c κs = search needs
 
 source-cell-requires : tie.Need-source-cell-requires
 source-cell-requires c κs = search needs
@@ -42,8 +46,8 @@ push-requires : tie.Need-push-requires
 push-requires c κs = search needs
 
 returns : tie.Need-returns
-unfolding typed sourceLine
-returns c = simp (typed-append, c .push .ensures, c .before .source-cell5 .ensures, c .before .before .source-cell4 .ensures, c .before .before .before .source-cell3 .ensures, c .before .before .before .before .source-cell2 .ensures, c .before .before .before .before .before .source-cell .ensures, c .before .before .before .before .before .before .source-label .ensures)
+unfolding typed sourceLine spelled
+returns c = simp (typed-append, c .push .ensures, c .before .source-cell5 .ensures, c .before .before .source-cell4 .ensures, c .before .before .before .source-cell3 .ensures, c .before .before .before .before .source-cell2 .ensures, c .before .before .before .before .before .source-cell .ensures, c .before .before .before .before .before .before .label .ensures)
 
 pub source-line-spec : {M : Type 1} → statement M
 source-line-spec =
@@ -54,7 +58,8 @@ source-line-spec =
     element-copy-out-s2
     element-copy-out-s3
     element-copy-out-s4
-    source-label-requires
+    slice-aggregate-label
+    label-requires
     source-cell-requires
     source-cell-requires-2
     source-cell-requires-3

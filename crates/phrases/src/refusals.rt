@@ -1,0 +1,58 @@
+// What is said of a file after its name.
+ghost use mathlib.Core.Path.{_≡_};
+ghost use Rattle.texts.specs.Kept.{noText, typed};
+ghost use Rattle.phrases.specs.Refusals.{notWhole, refusal, attempt as attemptOf, reason as reasonOf, trouble};
+use crate::word;
+use rules::Device;
+use texts::Text;
+
+fn not_whole(n: usize) -> Text
+    ensures { λ r. ⌜ r ≡ typed noText (notWhole n) ⌝ }
+{
+    let t = texts::no_text();
+    if Device::IMAGE_LEN < n {
+        return word(t, b": refused 7 (over 84 bytes)\n");
+    }
+    word(t, b": refused 7 (under 84 bytes)\n")
+}
+
+// Why an image of n bytes is refused, by the code of the refusal.
+pub fn refusal_line(code: u8, n: usize) -> Text
+    ensures { λ r. ⌜ r ≡ typed noText (refusal code n) ⌝ }
+{
+    match code {
+        7 => not_whole(n),
+        8 => word(texts::no_text(), b": refused 8 (contents differ)\n"),
+        _ => word(texts::no_text(), b": refused 9 (bodies unsound)\n"),
+    }
+}
+
+fn attempt(writing: bool) -> Text
+    ensures { λ r. ⌜ r ≡ typed noText (attemptOf writing) ⌝ }
+{
+    let t = texts::no_text();
+    if writing {
+        return word(t, b": cannot be written: ");
+    }
+    word(t, b": cannot be read: ")
+}
+
+fn reason(t: Text, why: usize) -> Text
+    ensures { λ r. ⌜ r ≡ typed t (reasonOf why) ⌝ }
+{
+    match why {
+        0 => word(t, b"no such file or folder\n"),
+        1 => word(t, b"not permitted\n"),
+        2 => word(t, b"a folder\n"),
+        3 => word(t, b"not in a folder\n"),
+        4 => word(t, b"no space\n"),
+        _ => word(t, b"the system refuses\n"),
+    }
+}
+
+// Why a file cannot be read or written.
+pub fn trouble_line(writing: bool, why: usize) -> Text
+    ensures { λ r. ⌜ r ≡ typed noText (trouble writing why) ⌝ }
+{
+    reason(attempt(writing), why)
+}

@@ -1,0 +1,99 @@
+// The line of an answer.
+ghost use mathlib.Core.Path.{_≡_};
+ghost use mathlib.Core.Bool.{cond};
+ghost use mathlib.Core.List.{[], _∷_};
+ghost use Prim.Native.Nat.{_+_, _<_};
+ghost use lib.ListN.{length};
+ghost use Rattle.texts.specs.Kept.{noText, typed, bytesOf};
+ghost use Rattle.texts.specs.Answers.{glyphOf, hexText, nibbleText, flagText, placeText, decimalText, countText, answerText};
+ghost use Rattle.rules.specs.Buffer.{fits, laidOf};
+use crate::Text;
+use crate::kept::kept_len;
+use crate::kept::no_text;
+use crate::kept::push;
+use rules::Answer;
+
+// The capital hexadecimal digit of the lower four bits.
+pub fn glyph(n: u8) -> u8
+    ensures { λ r. ⌜ r ≡ glyphOf n ⌝ }
+{
+    if n % 16 < 10 {
+        return 48 + n % 16;
+    }
+    55 + n % 16
+}
+
+fn hex(t: Text, n: u8) -> Text
+    ensures { λ r. ⌜ r ≡ typed t (hexText n) ⌝ }
+{
+    push(push(push(t, b' '), glyph(n / 16)), glyph(n))
+}
+
+fn nibble(t: Text, n: u8) -> Text
+    ensures { λ r. ⌜ r ≡ typed t (nibbleText n) ⌝ }
+{
+    push(push(t, b' '), glyph(n))
+}
+
+fn flag(t: Text, f: bool) -> Text
+    ensures { λ r. ⌜ r ≡ typed t (flagText f) ⌝ }
+{
+    let s = push(t, b' ');
+    if f {
+        return push(s, b'1');
+    }
+    push(s, b'0')
+}
+
+// The digit at the place of a power of ten.
+fn place(t: Text, p: u32, n: u32) -> Text
+    requires { ⌜ 0 < p ⌝ }
+    ensures { λ r. ⌜ r ≡ typed t (placeText p n) ⌝ }
+{
+    if n < p {
+        return t;
+    }
+    push(t, 48 + (n / p % 10) as u8)
+}
+
+fn decimal(t: Text, n: u32) -> Text
+    ensures { λ r. ⌜ r ≡ typed t (decimalText n) ⌝ }
+{
+    let t9 = place(t, 1000000000, n);
+    let t8 = place(t9, 100000000, n);
+    let t7 = place(t8, 10000000, n);
+    let t6 = place(t7, 1000000, n);
+    let t5 = place(t6, 100000, n);
+    let t4 = place(t5, 10000, n);
+    let t3 = place(t4, 1000, n);
+    let t2 = place(t3, 100, n);
+    let t1 = place(t2, 10, n);
+    push(t1, 48 + (n % 10) as u8)
+}
+
+fn count(t: Text, n: u32) -> Text
+    ensures { λ r. ⌜ r ≡ typed t (countText n) ⌝ }
+{
+    decimal(push(t, b' '), n)
+}
+
+// The line of an answer, with its line feed.
+pub fn answer_text(a: Answer) -> Text
+    ensures { λ r. ⌜ r ≡ typed noText (answerText a) ⌝ }
+{
+    let n = a.terminals;
+    let code = decimal(no_text(), a.code as u32);
+    let pins = nibble(hex(hex(hex(code, a.value), a.a), a.b), a.c);
+    let levels = flag(flag(pins, a.int), a.ieo);
+    let counts = count(count(count(levels, n[0]), n[1]), n[2]);
+    push(counts, b'\n')
+}
+
+// Lays a text into a buffer from a place, and answers the place after it; where it does not fit, nothing.
+pub fn lay(t: Text, buf: &mut [u8], at: usize) -> usize
+    ensures { λ r. ⌜ (now (buf .exit) ≡ laidOf (now (buf .entry)) at (bytesOf t)) × (r ≡ cond (fits (now (buf .entry)) at (bytesOf t)) (at + length (bytesOf t)) at) ⌝ }
+{
+    let n = kept_len(t);
+    let b = t.bytes;
+    bits::lay(buf, at, &b[..n])
+}

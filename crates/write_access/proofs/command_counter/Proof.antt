@@ -1,0 +1,67 @@
+use Rattle.rules.specs.Access.{counterCommanded}
+use borrow.Author.Needs.{needs}
+use Rattle.write_access.proofs.command_counter.Statement.{statement}
+use Rattle.write_access.proofs.command_counter.Tie as tie
+use Rattle.sources.proofs.command.Reads as command-reads′
+
+mul-k : tie.Need-mul-k
+mul-k c = search needs
+
+sub-k : tie.Need-sub-k
+sub-k c = search needs
+
+mul-command : tie.Need-mul-command
+mul-command c = search needs
+
+element-copy-out-command : tie.Need-element-copy-out-command
+element-copy-out-command c = search needs
+
+command-requires : tie.Need-command-requires
+command-requires c κs = search needs
+
+counter-on-requires : tie.Need-counter-on-requires
+counter-on-requires c κs = search needs
+
+mul-command-2 : tie.Need-mul-command-2
+mul-command-2 c = search needs
+
+element-copy-out-command-2 : tie.Need-element-copy-out-command-2
+element-copy-out-command-2 c = search needs
+
+command-requires-2 : tie.Need-command-requires-2
+command-requires-2 c κs = search needs
+
+mul-c : tie.Need-mul-c
+mul-c c = search needs
+
+element-set-from-c : tie.Need-element-set-from-c
+element-set-from-c c = search needs
+
+mul-s : tie.Need-mul-s
+mul-s c = search needs
+
+element-set-from-s : tie.Need-element-set-from-s
+element-set-from-s c = search needs
+
+returns : tie.Need-returns
+unfolding counterCommanded
+returns c = simp (c .before .before .before .command .ensures, c .command2 .ensures, c .before .before .counter-on .ensures)
+
+pub command-counter-spec : {M : Type 1} → statement M
+command-counter-spec =
+    tie.close
+    (tie.spec
+    mul-k
+    sub-k
+    mul-command
+    element-copy-out-command
+    command-requires
+    counter-on-requires
+    mul-command-2
+    element-copy-out-command-2
+    command-requires-2
+    mul-c
+    element-set-from-c
+    mul-s
+    element-set-from-s
+    returns)

@@ -1,0 +1,51 @@
+use native.Mathlib.Nat.{div-one}
+use Rattle.rules.specs.Access.{portCommanded}
+use borrow.Author.Needs.{needs}
+use Rattle.write_access.proofs.command_port.Statement.{statement}
+use Rattle.write_access.proofs.command_port.Tie as tie
+
+mul-k : tie.Need-mul-k
+mul-k c = search needs
+
+add-k : tie.Need-add-k
+add-k c = search needs
+
+mul-command : tie.Need-mul-command
+mul-command c = search needs
+
+element-copy-out-command : tie.Need-element-copy-out-command
+element-copy-out-command c = search needs
+
+command-requires : tie.Need-command-requires
+command-requires c κs = search needs
+
+mul-e : tie.Need-mul-e
+mul-e c = search needs
+
+way-write-given-e : tie.Need-way-write-given-e
+way-write-given-e c = search needs
+
+mul-s : tie.Need-mul-s
+mul-s c = search needs
+
+element-set-from-s : tie.Need-element-set-from-s
+element-set-from-s c = search needs
+
+returns : tie.Need-returns
+unfolding portCommanded
+returns c = simp (c .before .command .ensures, div-one)
+
+pub command-port-spec : {M : Type 1} → statement M
+command-port-spec =
+    tie.close
+    (tie.spec
+    mul-k
+    add-k
+    mul-command
+    element-copy-out-command
+    command-requires
+    mul-e
+    way-write-given-e
+    mul-s
+    element-set-from-s
+    returns)

@@ -1,0 +1,183 @@
+// The direct effect of a write to the register at an address.
+ghost use mathlib.Core.Path.{_≡_};
+ghost use Prim.Native.Nat.{_<_};
+ghost use Rattle.rules.specs.Byte.{withByte};
+ghost use Rattle.rules.specs.Record.{portAt, counterAt, withVector, withPort, withPattern, withCounter};
+ghost use Rattle.rules.specs.Registers.{kindOf, kept};
+ghost use Rattle.rules.specs.PortData.{writtenData};
+ghost use Rattle.rules.specs.Access.{masterWritten, configWritten, withPolarity, withDirection, withSpecial, portCommanded, counterCommanded, withConstant, withMode, writtenOf};
+ghost use Rattle.registers.specs.Place.{place, places};
+use rules::Device;
+use rules::Kind;
+use rules::Pattern;
+
+fn write_master(d: Device, b: u8) -> Device
+    ensures { λ r. ⌜ r ≡ masterWritten d b ⌝ }
+{
+    if b % 2 == 1 {
+        return record::reset(d);
+    }
+    let mut e = d;
+    e.master = b;
+    e
+}
+
+fn write_config(d: Device, b: u8) -> Device
+    ensures { λ r. ⌜ r ≡ configWritten d b ⌝ }
+{
+    let c1 = counters::enable(device::counter_on(b, 0), d.counters[0]);
+    let c2 = counters::enable(device::counter_on(b, 1), d.counters[1]);
+    let c3 = counters::enable(device::counter_on(b, 2), d.counters[2]);
+    let mut e = d;
+    e.config = b;
+    e.counters = [c1, c2, c3];
+    e
+}
+
+fn write_vector(d: Device, v: usize, b: u8) -> Device
+    requires { ⌜ v < 3 ⌝ }
+    ensures { λ r. ⌜ r ≡ withVector d v b ⌝ }
+{
+    let mut e = d;
+    e.vectors[v] = b;
+    e
+}
+
+fn write_polarity(d: Device, p: usize, b: u8) -> Device
+    requires { ⌜ p < 3 ⌝ }
+    ensures { λ r. ⌜ r ≡ withPort d p (withPolarity (portAt d p) (kept p b)) ⌝ }
+{
+    let mut e = d;
+    e.ports[p].polarity = registers::keep(p, b);
+    e
+}
+
+fn write_direction(d: Device, p: usize, b: u8) -> Device
+    requires { ⌜ p < 3 ⌝ }
+    ensures { λ r. ⌜ r ≡ withPort d p (withDirection (portAt d p) (kept p b)) ⌝ }
+{
+    let mut e = d;
+    e.ports[p].direction = registers::keep(p, b);
+    e
+}
+
+fn write_special(d: Device, p: usize, b: u8) -> Device
+    requires { ⌜ p < 3 ⌝ }
+    ensures { λ r. ⌜ r ≡ withPort d p (withSpecial (portAt d p) (kept p b)) ⌝ }
+{
+    let mut e = d;
+    e.ports[p].special = registers::keep(p, b);
+    e
+}
+
+fn command_port(d: Device, p: usize, b: u8) -> Device
+    requires { ⌜ p < 2 ⌝ }
+    ensures { λ r. ⌜ r ≡ portCommanded d p b ⌝ }
+{
+    let k = 1 + 2 * p;
+    let s = sources::command(d.sources[k], b / 32);
+    let mut e = d;
+    e.patterns[p].ioe = b % 2 == 1;
+    e.sources[k] = s;
+    e
+}
+
+fn command_counter(d: Device, i: usize, b: u8) -> Device
+    requires { ⌜ i < 3 ⌝ }
+    ensures { λ r. ⌜ r ≡ counterCommanded d i b ⌝ }
+{
+    let k = 4 - 2 * i;
+    let s = sources::command(d.sources[k], b / 32);
+    let c = counters::command(device::counter_on(d.config, i), b, d.counters[i]);
+    let mut e = d;
+    e.counters[i] = c;
+    e.sources[k] = s;
+    e
+}
+
+fn write_data(d: Device, p: usize, b: u8) -> Device
+    requires { ⌜ p < 3 ⌝ }
+    ensures { λ r. ⌜ r ≡ withPort d p (writtenData (portAt d p) p b) ⌝ }
+{
+    let q = ports::put(d.ports[p], p, b);
+    let mut e = d;
+    e.ports[p] = q;
+    e
+}
+
+fn write_constant(d: Device, i: usize, high: bool, b: u8) -> Device
+    requires { ⌜ i < 3 ⌝ }
+    ensures { λ r. ⌜ r ≡ withCounter d i (withConstant (counterAt d i) (withByte high (counterAt d i .constant) b)) ⌝ }
+{
+    let n = bits::with_byte(high, d.counters[i].constant, b);
+    let mut e = d;
+    e.counters[i].constant = n;
+    e
+}
+
+fn write_mode(d: Device, i: usize, b: u8) -> Device
+    requires { ⌜ i < 3 ⌝ }
+    ensures { λ r. ⌜ r ≡ withCounter d i (withMode (counterAt d i) b) ⌝ }
+{
+    let mut e = d;
+    e.counters[i].mode = b;
+    e
+}
+
+fn with_pattern(d: Device, p: usize, q: Pattern) -> Device
+    requires { ⌜ p < 2 ⌝ }
+    ensures { λ r. ⌜ r ≡ withPattern d p q ⌝ }
+{
+    let mut e = d;
+    e.patterns[p] = q;
+    e
+}
+
+fn write_kind(d: Device, k: Kind, b: u8) -> Device
+    requires { ⌜ place k < places k ⌝ }
+    ensures { λ r. ⌜ r ≡ writtenOf d k b ⌝ }
+{
+    match k {
+        Kind::Master => write_master(d, b),
+        Kind::Config => write_config(d, b),
+        Kind::Vector(v) => write_vector(d, v, b),
+        Kind::Polarity(p) => write_polarity(d, p, b),
+        Kind::Direction(p) => write_direction(d, p, b),
+        Kind::Special(p) => write_special(d, p, b),
+        Kind::PortCommand(p) => command_port(d, p, b),
+        Kind::CounterCommand(i) => command_counter(d, i, b),
+        Kind::Data(p) => write_data(d, p, b),
+        Kind::Current(_, _) => d,
+        Kind::Constant(i, high) => write_constant(d, i, high, b),
+        Kind::CounterMode(i) => write_mode(d, i, b),
+        Kind::CurrentVector => d,
+        Kind::PortMode(p) => {
+            let q = d.patterns[p];
+            with_pattern(d, p, Pattern { mode: b, ..q })
+        }
+        Kind::Handshake(p) => {
+            let q = d.patterns[p];
+            with_pattern(d, p, Pattern { handshake: b, ..q })
+        }
+        Kind::PatternPolarity(p) => {
+            let q = d.patterns[p];
+            with_pattern(d, p, Pattern { polarity: b, ..q })
+        }
+        Kind::Transition(p) => {
+            let q = d.patterns[p];
+            with_pattern(d, p, Pattern { transition: b, ..q })
+        }
+        Kind::Mask(p) => {
+            let q = d.patterns[p];
+            with_pattern(d, p, Pattern { mask: b, ..q })
+        }
+        Kind::Absent => d,
+    }
+}
+
+// The record after the direct effect of a write.
+pub fn write(d: Device, address: u32, b: u8) -> Device
+    ensures { λ r. ⌜ r ≡ writtenOf d (kindOf address) b ⌝ }
+{
+    write_kind(d, registers::kind_of(address), b)
+}
