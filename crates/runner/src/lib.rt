@@ -4,16 +4,15 @@ ghost use mathlib.Core.Path.{_≡_};
 ghost use mathlib.Core.Bool.{true, false};
 ghost use Prim.Native.Nat.{_+_, _-_, _*_, _≤_, _<_};
 ghost use lib.ListN.{getD};
-ghost use Rattle.rules.specs.Step.{clockOf, iterate, ranOf};
+ghost use Rattle.rules.specs.Byte.{num};
+ghost use Rattle.rules.specs.Step.{counted, clockOf, iterate, ranOf};
 ghost use Rattle.runs.specs.Stretch.{lowerOf, loweredOf, movedOf};
+ghost use Rattle.runner.specs.Room.{Room};
 ghost use Rattle.runner.specs.Chase.{Timer, Moving, Leaps, Holds, Follows};
-
-mod clocks;
-
-use clocks::clock;
 use rules::Counter;
 use rules::Device;
 use rules::Ran;
+use rules::Stepped;
 
 // Some clocks of a run at once.
 pub struct Leap {
@@ -30,6 +29,52 @@ pub struct Chase {
     pub leaps: u32,
     pub span: u32,
     pub left: u32,
+}
+
+// One terminal count more, if there was one.
+fn add(n: u32, t: bool) -> u32
+    requires { ⌜ n < 4294967295 ⌝ }
+    ensures { λ r. ⌜ r ≡ n + num t ⌝ }
+{
+    if t {
+        return n + 1;
+    }
+    n
+}
+
+// The terminal counts so far, with those of a step.
+fn count(ns: [u32; 3], s: Stepped) -> Ran
+    requires { ⌜ Room ns ⌝ }
+    ensures { λ r. ⌜ r ≡ counted ns s ⌝ }
+{
+    let t = s.terminals;
+    let d = s.device;
+    Ran {
+        device: d,
+        terminals: [add(ns[0], t[0]), add(ns[1], t[1]), add(ns[2], t[2])],
+    }
+}
+
+// One PCLK clock, with the terminal counts so far.
+fn clock(s: Ran) -> Ran
+    requires { ⌜ Room (s .terminals) ⌝ }
+    ensures { λ r. ⌜ r ≡ clockOf s ⌝ }
+{
+    let d = s.device;
+    let ns = s.terminals;
+    if d.master % 2 == 1 {
+        return s;
+    }
+    let mut e = d;
+    if d.phase {
+        e.phase = false;
+        return count(ns, step::step(true, d, e));
+    }
+    e.phase = true;
+    Ran {
+        device: e,
+        terminals: ns,
+    }
 }
 
 // Whether a record has come back to what it was.

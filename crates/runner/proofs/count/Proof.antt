@@ -1,7 +1,7 @@
 use Rattle.rules.specs.Step.{counted}
 use borrow.Author.Needs.{needs}
-use Rattle.runner.proofs.clocks.count.Statement.{statement}
-use Rattle.runner.proofs.clocks.count.Tie as tie
+use Rattle.runner.proofs.count.Statement.{statement}
+use Rattle.runner.proofs.count.Tie as tie
 
 array-read-add : tie.Need-array-read-add
 array-read-add c = search needs

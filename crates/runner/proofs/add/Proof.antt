@@ -1,7 +1,7 @@
 use native.Mathlib.Nat.{add-zero}
 use borrow.Author.Needs.{needs}
-use Rattle.runner.proofs.clocks.add.Statement.{statement}
-use Rattle.runner.proofs.clocks.add.Tie as tie
+use Rattle.runner.proofs.add.Statement.{statement}
+use Rattle.runner.proofs.add.Tie as tie
 
 add-result : tie.Need-add-result
 add-result c = search needs

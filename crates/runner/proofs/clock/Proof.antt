@@ -2,8 +2,8 @@ use native.Mathlib.Nat.{div-one}
 use borrow.Author.Tests.{eq-eqb, ne-eqb}
 use Rattle.rules.specs.Step.{clockOf}
 use borrow.Author.Needs.{needs}
-use Rattle.runner.proofs.clocks.clock.Statement.{statement}
-use Rattle.runner.proofs.clocks.clock.Tie as tie
+use Rattle.runner.proofs.clock.Statement.{statement}
+use Rattle.runner.proofs.clock.Tie as tie
 
 returns : tie.Need-returns
 unfolding clockOf
