@@ -6,10 +6,10 @@ use mathlib.Core.Bool.{Bool, true, false, not, _&&_, _||_, Bool·beq, cond}
 use native.Mathlib.Nat.{div-add-mod'}
 use lib.Arith.{digits-div, digits-mod}
 use lib.Dec.{T, eqb, ltb, eqb→eq}
-use Rattle.rules.specs.Byte.{bit, byteIn}
+use Rattle.basics.specs.Byte.{bit, byteIn}
 use Rattle.bodies.specs.Taken.{wordOf, portClear, counterClear}
-use Rattle.bits.proofs.Truth.{rows, all2, all6, all7, same}
-use Rattle.bits.proofs.Laws.{all, below}
+use Rattle.basics.proofs.Truth.{rows, all2, all6, all7, same}
+use Rattle.basics.proofs.Laws.{all, below}
 
 -- clauses that hold together hold one by one
 pub both : (a b : Bool) → (a && b) ≡ true → (a ≡ true) × (b ≡ true)
@@ -20,6 +20,11 @@ pub triple : (a b c : Bool) → (a && b && c) ≡ true → (a ≡ true) × (b �
 triple a b c h =
     let q = both (a && b) c h in
     let p = both a b (q .0) in (p .0, p .1, q .1)
+
+pub fourfold : (a b c d : Bool) → (a && b && c && d) ≡ true → (a ≡ true) × (b ≡ true) × (c ≡ true) × (d ≡ true)
+fourfold a b c d h =
+    let r = both (a && b && c) d h in
+    let q = triple a b c (r .0) in (q .0, q .1, q .2, r .1)
 
 pub sextet : (a b c d e f : Bool) → (a && b && c && d && e && f) ≡ true → (a ≡ true) × (b ≡ true) × (c ≡ true) × (d ≡ true) × (e ≡ true) × (f ≡ true)
 sextet a b c d e f h =
@@ -41,7 +46,8 @@ abbrev pub flagByte : Bool → Bool → ℕ
 flagByte a b = cond a 1 0 + cond b 2 0
 
 module _ (u e p r m i : Bool) where
-  at-port : (k : ℕ) (x : Bool → Bool → Bool → Bool → Bool → Bool → Bool) → T (rows (λ u. rows (λ e. rows (λ p. rows (λ r. rows (λ m. rows (λ i. Bool·beq (bit (portByte u e p r m i) k) (x u e p r m i))))))))
+  at-port : (k : ℕ) (x : Bool → Bool → Bool → Bool → Bool → Bool → Bool)
+      → T (rows (λ u. rows (λ e. rows (λ p. rows (λ r. rows (λ m. rows (λ i. Bool·beq (bit (portByte u e p r m i) k) (x u e p r m i))))))))
       → bit (portByte u e p r m i) k ≡ x u e p r m i
   at-port k x t = same _ _ (all6 (λ u e p r m i. Bool·beq (bit (portByte u e p r m i) k) (x u e p r m i)) t u e p r m i)
 
@@ -67,7 +73,8 @@ module _ (u e p r m i : Bool) where
   port-clear = same _ _ (all6 (λ u e p r m i. Bool·beq (portClear (portByte u e p r m i)) true) tt u e p r m i)
 
 module _ (u e p r f g c : Bool) where
-  at-counter : (k : ℕ) (x : Bool → Bool → Bool → Bool → Bool → Bool → Bool → Bool) → T (rows (λ u. rows (λ e. rows (λ p. rows (λ r. rows (λ f. rows (λ g. rows (λ c. Bool·beq (bit (counterByte u e p r f g c) k) (x u e p r f g c)))))))))
+  at-counter : (k : ℕ) (x : Bool → Bool → Bool → Bool → Bool → Bool → Bool → Bool)
+      → T (rows (λ u. rows (λ e. rows (λ p. rows (λ r. rows (λ f. rows (λ g. rows (λ c. Bool·beq (bit (counterByte u e p r f g c) k) (x u e p r f g c)))))))))
       → bit (counterByte u e p r f g c) k ≡ x u e p r f g c
   at-counter k x t = same _ _ (all7 (λ u e p r f g c. Bool·beq (bit (counterByte u e p r f g c) k) (x u e p r f g c)) t u e p r f g c)
 

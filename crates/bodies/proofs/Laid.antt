@@ -6,8 +6,8 @@ use mathlib.Core.List.{List, [], _++_}
 use native.Mathlib.Omega.{arith}
 use lib.ListN.{length, drop, length-append, length-drop}
 use lib.Seq.{paste, take-at, take-length, drop-append-add, drop-drop}
-use Rattle.rules.specs.Buffer.{laidOf}
-use Rattle.bits.proofs.Laying.{laid-fits}
+use Rattle.basics.specs.Buffer.{laidOf}
+use Rattle.basics.proofs.Laying.{laid-fits}
 
 -- e with its first k bytes replaced by xs, of which there are k
 pub record Laid (e xs f : List ℕ) (k : ℕ) : Type 0 where

@@ -1,3 +1,4 @@
+pub mod LayoutLaw
 pub mod Laid
 pub mod Lists
 pub mod Bytes
@@ -5,3 +6,4 @@ pub mod RegistersLaw
 pub mod CountsLaw
 pub mod PinsLaw
 pub mod LinesLaw
+pub mod Whole

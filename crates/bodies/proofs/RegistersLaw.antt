@@ -9,57 +9,51 @@ use mathlib.Core.List.{List, [], _∷_}
 use lib.ListN.{length}
 use Rattle.rules.specs.declared.Source.{Source}
 use Rattle.rules.specs.declared.Counter.{Counter}
+use Rattle.rules.specs.declared.Port.{Port}
 use Rattle.rules.specs.declared.Pattern.{Pattern}
 use Rattle.rules.specs.declared.Device.{Device}
-use Rattle.rules.specs.Byte.{bit, byteIn}
+use Rattle.basics.specs.Byte.{bit, byteIn}
+use Rattle.rules.specs.With.{device, withHidden, withCount, withHalf, withOutside, withCatcher, withIoe, withPmf, withPatterns, withCounters, withSources}
 use Rattle.rules.specs.Record.{vectorAt, portAt, patternAt, counterAt, sourceAt}
-use Rattle.rules.specs.Registers.{kindOf, kindIn, portKind, statusOf}
-use Rattle.rules.specs.Access.{portCommand, counterCommand}
-use Rattle.bodies.specs.Written.{savedByte, registersFrom, registersOf}
-use Rattle.bodies.specs.Taken.{at, Bytes, wordOf, sourceIn, patternIn, counterIn, registersIn, counted, hid, pinned, portClear, counterClear, registersClear}
+use Rattle.rules.specs.Registers.{kindOf, kindIn, portKind, statusOf, portCommandOf, counterCommandOf}
+use Rattle.rules.specs.Access.{portCommand, counterCommand, readOf}
+use Rattle.bodies.specs.Written.{savedByte, registersFrom, registersBody}
+use Rattle.bodies.specs.Taken.{byteAt, Bytes, wordOf, sourceIn, patternIn, counterIn, registersIn, portClear, counterClear, registersClear}
 use Rattle.bodies.proofs.Lists.{then, ap₃, elements}
-use Rattle.bodies.proofs.Bytes.{portByte, counterByte, port-ius, port-ie, port-ip, port-err, port-pmf, port-ioe, counter-ius, counter-ie, counter-ip, counter-err, counter-rcc, counter-gcb, counter-cip, port-clear, counter-clear, port-made, counter-made, word-read, high-made, low-made, sextet}
+use Rattle.bodies.proofs.Bytes.{port-ius, port-ie, port-ip, port-err, port-pmf, port-ioe, port-clear, port-made}
+use Rattle.bodies.proofs.Bytes.{counter-ius, counter-ie, counter-ip, counter-err, counter-rcc, counter-gcb, counter-cip, counter-clear, counter-made}
+use Rattle.bodies.proofs.Bytes.{word-read, high-made, low-made, sextet}
 
--- what body 1 tells of a record; the rest is 0
+-- ---- what body 1 tells of a part of a record; the rest is 0
+abbrev countless : Counter → Counter
+countless c = withHalf (withCount c 0) false
+
+abbrev pinless : Port → Port
+pinless q = withCatcher (withOutside q 0) 0
+
+abbrev unhidden : Source → Source
+unhidden s = withHidden s false
+
+-- and of a record
 abbrev pub registersTold : Device → Device
 registersTold d =
-    record {
-      master = d .master;
-      config = d .config;
-      vectors = vectorAt d 0 ∷ vectorAt d 1 ∷ vectorAt d 2 ∷ [];
-      ports = pinned (portAt d 0) 0 0 ∷ pinned (portAt d 1) 0 0 ∷ pinned (portAt d 2) 0 0 ∷ [];
-      patterns = patternAt d 0 ∷ patternAt d 1 ∷ [];
-      counters = counted (counterAt d 0) 0 false ∷ counted (counterAt d 1) 0 false ∷ counted (counterAt d 2) 0 false ∷ [];
-      sources =
-          hid (sourceAt d 0) false ∷ hid (sourceAt d 1) false ∷ hid (sourceAt d 2) false ∷ hid (sourceAt d 3) false
-          ∷ hid (sourceAt d 4) false ∷ [];
-      iei = false;
-      phase = false;
-    }
+    device (d .master) (d .config) (vectorAt d 0 ∷ vectorAt d 1 ∷ vectorAt d 2 ∷ [])
+    (pinless (portAt d 0) ∷ pinless (portAt d 1) ∷ pinless (portAt d 2) ∷ []) (patternAt d 0 ∷ patternAt d 1 ∷ [])
+    (countless (counterAt d 0) ∷ countless (counterAt d 1) ∷ countless (counterAt d 2) ∷ [])
+    (unhidden (sourceAt d 0) ∷ unhidden (sourceAt d 1) ∷ unhidden (sourceAt d 2) ∷ unhidden (sourceAt d 3) ∷ unhidden (sourceAt d 4) ∷ [])
+    false false
 
 -- ---- the bytes of one source, pattern and counter, read back
-abbrev ofPattern : Source → Pattern → ℕ
-ofPattern s q = portByte (s .ius) (s .ie) (s .ip) (s .err) (q .pmf) (q .ioe)
-
-abbrev ofCounter : Source → Counter → ℕ
-ofCounter s c = counterByte (s .ius) (s .ie) (s .ip) (s .err) (c .rcc) (c .gcb) (c .cip)
-
-port-source : (s : Source) (q : Pattern) → sourceIn (ofPattern s q) ≡ hid s false
+port-source : (s : Source) (q : Pattern) → sourceIn (portCommandOf s q) ≡ unhidden s
+unfolding statusOf
 port-source s q = simp (port-ius, port-ie, port-ip, port-err)
 
-counter-source : (s : Source) (c : Counter) → sourceIn (ofCounter s c) ≡ hid s false
+counter-source : (s : Source) (c : Counter) → sourceIn (counterCommandOf s c) ≡ unhidden s
+unfolding statusOf
 counter-source s c = simp (counter-ius, counter-ie, counter-ip, counter-err)
 
-pattern-read : (s : Source) (q : Pattern) →
-    record {
-      mode = q .mode;
-      handshake = q .handshake;
-      polarity = q .polarity;
-      transition = q .transition;
-      mask = q .mask;
-      ioe = bit (ofPattern s q) 0;
-      pmf = bit (ofPattern s q) 1;
-    } ≡ q
+pattern-read : (s : Source) (q : Pattern) → withPmf (withIoe q (bit (portCommandOf s q) 0)) (bit (portCommandOf s q) 1) ≡ q
+unfolding statusOf
 pattern-read s q = simp (port-ioe, port-pmf)
 
 counter-read : (s : Source) (c : Counter) →
@@ -68,62 +62,57 @@ counter-read : (s : Source) (c : Counter) →
       constant = wordOf (byteIn true (c .constant)) (byteIn false (c .constant));
       count = 0;
       frozen = wordOf (byteIn true (c .frozen)) (byteIn false (c .frozen));
-      rcc = bit (ofCounter s c) 3;
-      gcb = bit (ofCounter s c) 2;
-      cip = bit (ofCounter s c) 0;
+      rcc = bit (counterCommandOf s c) 3;
+      gcb = bit (counterCommandOf s c) 2;
+      cip = bit (counterCommandOf s c) 0;
       half = false;
-    } ≡ counted c 0 false
+    } ≡ countless c
+unfolding statusOf
 counter-read s c = simp (word-read, counter-rcc, counter-gcb, counter-cip)
 
 -- ---- the whole body
-pub registers-read : (d : Device) → registersIn (registersOf d) ≡ registersTold d
-unfolding registersIn registersOf registersFrom savedByte kindOf kindIn portKind portCommand counterCommand statusOf patternIn counterIn
+pub registers-read : (d : Device) → registersIn (registersBody d) ≡ registersTold d
+unfolding registersIn registersBody registersFrom savedByte readOf kindOf kindIn portKind portCommand counterCommand patternIn counterIn
 registers-read d =
     ap₃ (λ (ps : List Pattern) (cs : List Counter) (ss : List Source).
-    record {
-      master = d .master;
-      config = d .config;
-      vectors = vectorAt d 0 ∷ vectorAt d 1 ∷ vectorAt d 2 ∷ [];
-      ports = pinned (portAt d 0) 0 0 ∷ pinned (portAt d 1) 0 0 ∷ pinned (portAt d 2) 0 0 ∷ [];
-      patterns = ps;
-      counters = cs;
-      sources = ss;
-      iei = false;
-      phase = false;
-    })
+    withSources (withCounters (withPatterns (registersTold d) ps) cs) ss)
     (then (pattern-read (sourceAt d 1) (patternAt d 0)) (then (pattern-read (sourceAt d 3) (patternAt d 1)) refl))
-    (then (counter-read (sourceAt d 4) (counterAt d 0)) (then (counter-read (sourceAt d 2) (counterAt d 1)) (then (counter-read (sourceAt d 0) (counterAt d 2)) refl)))
+    (then (counter-read (sourceAt d 4) (counterAt d 0)) (then (counter-read (sourceAt d 2) (counterAt d 1))
+    (then (counter-read (sourceAt d 0) (counterAt d 2)) refl)))
     (then (counter-source (sourceAt d 0) (counterAt d 2)) (then (port-source (sourceAt d 1) (patternAt d 0))
     (then (counter-source (sourceAt d 2) (counterAt d 1)) (then (port-source (sourceAt d 3) (patternAt d 1))
     (then (counter-source (sourceAt d 4) (counterAt d 0)) refl)))))
 
-pub registers-written : (b : List ℕ) → length b ≡ 48 → Bytes b → registersClear b ≡ true → registersOf (registersIn b) ≡ b
-unfolding registersIn registersOf registersFrom savedByte kindOf kindIn portKind portCommand counterCommand statusOf patternIn counterIn
+pub registers-written : (b : List ℕ) → length b ≡ 48 → Bytes b → registersClear b ≡ true → registersBody (registersIn b) ≡ b
+unfolding registersIn registersBody registersFrom savedByte readOf kindOf kindIn portKind portCommand counterCommand statusOf patternIn counterIn
 registers-written b n h c =
-    let k = sextet (portClear (at b 8)) (portClear (at b 9)) (counterClear (at b 10)) (counterClear (at b 11)) (counterClear (at b 12)) (eqb (at b 31) 0) c in
+    let k =
+    sextet (portClear (byteAt b 0x08)) (portClear (byteAt b 0x09))
+    (counterClear (byteAt b 0x0A)) (counterClear (byteAt b 0x0B)) (counterClear (byteAt b 0x0C))
+    (eqb (byteAt b 0x1F) 0) c in
     (simp (
-      port-made (at b 8) (h 8) (k .0),
-      port-made (at b 9) (h 9) (k .1),
-      counter-made (at b 10) (h 10) (k .2),
-      counter-made (at b 11) (h 11) (k .3),
-      counter-made (at b 12) (h 12) (k .4),
-      high-made (at b 16) (at b 17) (h 17),
-      low-made (at b 16) (at b 17) (h 17),
-      high-made (at b 18) (at b 19) (h 19),
-      low-made (at b 18) (at b 19) (h 19),
-      high-made (at b 20) (at b 21) (h 21),
-      low-made (at b 20) (at b 21) (h 21),
-      high-made (at b 22) (at b 23) (h 23),
-      low-made (at b 22) (at b 23) (h 23),
-      high-made (at b 24) (at b 25) (h 25),
-      low-made (at b 24) (at b 25) (h 25),
-      high-made (at b 26) (at b 27) (h 27),
-      low-made (at b 26) (at b 27) (h 27),
-      eqb-true (at b 31) 0 (k .5),
+      port-made (byteAt b 0x08) (h 0x08) (k .0),
+      port-made (byteAt b 0x09) (h 0x09) (k .1),
+      counter-made (byteAt b 0x0A) (h 0x0A) (k .2),
+      counter-made (byteAt b 0x0B) (h 0x0B) (k .3),
+      counter-made (byteAt b 0x0C) (h 0x0C) (k .4),
+      high-made (byteAt b 0x10) (byteAt b 0x11) (h 0x11),
+      low-made (byteAt b 0x10) (byteAt b 0x11) (h 0x11),
+      high-made (byteAt b 0x12) (byteAt b 0x13) (h 0x13),
+      low-made (byteAt b 0x12) (byteAt b 0x13) (h 0x13),
+      high-made (byteAt b 0x14) (byteAt b 0x15) (h 0x15),
+      low-made (byteAt b 0x14) (byteAt b 0x15) (h 0x15),
+      high-made (byteAt b 0x16) (byteAt b 0x17) (h 0x17),
+      low-made (byteAt b 0x16) (byteAt b 0x17) (h 0x17),
+      high-made (byteAt b 0x18) (byteAt b 0x19) (h 0x19),
+      low-made (byteAt b 0x18) (byteAt b 0x19) (h 0x19),
+      high-made (byteAt b 0x1A) (byteAt b 0x1B) (h 0x1B),
+      low-made (byteAt b 0x1A) (byteAt b 0x1B) (h 0x1B),
+      eqb-true (byteAt b 0x1F) 0 (k .5),
     ))
     ∙ elements b 48 n
 
 -- a written body is clear
-pub registers-clear : (d : Device) → registersClear (registersOf d) ≡ true
-unfolding registersOf registersFrom savedByte kindOf kindIn portKind portCommand counterCommand statusOf
+pub registers-clear : (d : Device) → registersClear (registersBody d) ≡ true
+unfolding registersBody registersFrom savedByte readOf kindOf kindIn portKind portCommand counterCommand statusOf
 registers-clear d = simp (port-clear, counter-clear)

@@ -1,4 +1,4 @@
--- Paper 01, "The image": the four bodies of a record, byte for byte. Every field of the record stands in one of them:
+-- Paper 01, "The image": the four bodies of a record, byte for byte, and its image. Every field of the record stands in one of them:
 --
 --   | field                                               | body                                   |
 --   |-----------------------------------------------------|----------------------------------------|
@@ -16,75 +16,85 @@
 --   | iei, phase                                          | 4                                      |
 --
 -- Assumes nothing.
-use Prim.Native.Nat.{ℕ, zero, suc, _+_}
-use mathlib.Core.Bool.{true, false, cond}
+use Prim.Native.Nat.{ℕ, zero, suc, _+_, _-_, _/_, _%_}
+use mathlib.Core.Bool.{true, false}
 use mathlib.Core.List.{List, [], _∷_, _++_}
+use Rattle.basics.specs.Signs.{if_then_else_, _==_, within}
 use Rattle.rules.specs.declared.Device.{Device}
-use Rattle.rules.specs.declared.Kind.{Kind}
-use Rattle.rules.specs.declared.Kind.the-variants.{Master, Config, Vector, Polarity, Direction, Special, PortCommand, CounterCommand, Data, Current, Constant, CounterMode, CurrentVector, PortMode, Handshake, PatternPolarity, Transition, Mask, Absent}
-use Rattle.rules.specs.Byte.{byteIn}
-use Rattle.rules.specs.Record.{registerCount, vectorAt, portAt, patternAt, counterAt, sourceAt, ofPort, ofCounter}
+use Rattle.basics.specs.Byte.{byteIn}
+use Rattle.rules.specs.Record.{registerCount, vectorAt, portAt, counterAt, sourceAt, ofPort, ofCounter}
 use Rattle.rules.specs.Registers.{kindOf}
-use Rattle.rules.specs.Access.{portCommand, counterCommand}
+use Rattle.rules.specs.Access.{readOf}
+use Rattle.bodies.specs.declared.Bodies.{Bodies}
+use Rattle.bodies.specs.Layout.{Entry, layoutOf, contentsOf}
 
 -- the values of f at n places from i
 abbrev pub listed : (ℕ → ℕ) → ℕ → ℕ → List ℕ
 listed f i zero = []
 listed f i (suc n) = f i ∷ listed f (suc i) n
 
--- "command registers as read, 0D-0F output registers, 10-15 the frozen count or 0, 1F 0":
--- a sound record, and no other is saved, has a frozen count only with RCC, and else 0
-unfoldable pub savedByte : Device → Kind → ℕ
-savedByte d Master = d .master
-savedByte d Config = d .config
-savedByte d (Vector v) = vectorAt d v
-savedByte d (Polarity p) = portAt d p .polarity
-savedByte d (Direction p) = portAt d p .direction
-savedByte d (Special p) = portAt d p .special
-savedByte d (PortCommand p) = portCommand d p
-savedByte d (CounterCommand i) = counterCommand d i
-savedByte d (Data p) = portAt d p .output
-savedByte d (Current i high) = byteIn high (counterAt d i .frozen)
-savedByte d (Constant i high) = byteIn high (counterAt d i .constant)
-savedByte d (CounterMode i) = counterAt d i .mode
-savedByte d CurrentVector = 0
-savedByte d (PortMode p) = patternAt d p .mode
-savedByte d (Handshake p) = patternAt d p .handshake
-savedByte d (PatternPolarity p) = patternAt d p .polarity
-savedByte d (Transition p) = patternAt d p .transition
-savedByte d (Mask p) = patternAt d p .mask
-savedByte d Absent = 0
+-- "register bytes by address; command registers as read, 0D-0F output registers, 10-15 the frozen count or 0, 1F 0", and vectors
+-- without status. A sound record, and no other is saved, has a frozen count only with RCC, and else 0.
+unfoldable pub savedByte : Device → ℕ → ℕ
+savedByte d a =
+    if within 0x02 0x04 a then vectorAt d (a - 0x02) else
+    if within 0x0D 0x0F a then portAt d (a - 0x0D) .output else
+    if within 0x10 0x15 a then byteIn (a % 2 == 0) (counterAt d ((a - 0x10) / 2) .frozen) else
+    if a == 0x1F then 0x00 else
+    readOf d (kindOf a)
 
 -- n register bytes from address a
 unfoldable pub registersFrom : Device → ℕ → ℕ → List ℕ
-registersFrom d a n = listed (λ k. savedByte d (kindOf k)) a n
+registersFrom d a n = listed (savedByte d) a n
 
 -- "Body 1: register bytes by address"
-unfoldable pub registersOf : Device → List ℕ
-registersOf d = registersFrom d 0 registerCount
+unfoldable pub registersBody : Device → List ℕ
+registersBody d = registersFrom d 0x00 registerCount
 
--- "count, high first, then flags (D0 second half, D1 hidden error)"
+-- "flags (D0 second half, D1 hidden error)"
 unfoldable pub flagsOf : Device → ℕ → ℕ
-flagsOf d i = cond (counterAt d i .half) 1 0 + cond (sourceAt d (ofCounter i) .hidden) 2 0
+flagsOf d i = (if counterAt d i .half then 1 else 0) + (if sourceAt d (ofCounter i) .hidden then 2 else 0)
 
-abbrev pub countOf : Device → ℕ → List ℕ
-countOf d i = byteIn true (counterAt d i .count) ∷ byteIn false (counterAt d i .count) ∷ flagsOf d i ∷ []
+-- "count, high first, then flags"
+abbrev pub counterBytes : Device → ℕ → List ℕ
+counterBytes d i = byteIn true (counterAt d i .count) ∷ byteIn false (counterAt d i .count) ∷ flagsOf d i ∷ []
 
 -- "Body 2, per counter"
-unfoldable pub countsOf : Device → List ℕ
-countsOf d = countOf d 0 ++ countOf d 1 ++ countOf d 2
+unfoldable pub countsBody : Device → List ℕ
+countsBody d = counterBytes d 0 ++ counterBytes d 1 ++ counterBytes d 2
 
 -- "hidden errors (D0 A, D1 B)"
 unfoldable pub hiddenOf : Device → ℕ
-hiddenOf d = cond (sourceAt d (ofPort 0) .hidden) 1 0 + cond (sourceAt d (ofPort 1) .hidden) 2 0
+hiddenOf d = (if sourceAt d (ofPort 0) .hidden then 1 else 0) + (if sourceAt d (ofPort 1) .hidden then 2 else 0)
 
 -- "Body 3: outside A, B, C; catchers A, B, C; hidden errors"
-unfoldable pub pinsOf : Device → List ℕ
-pinsOf d =
+unfoldable pub pinsBody : Device → List ℕ
+pinsBody d =
     portAt d 0 .outside ∷ portAt d 1 .outside ∷ portAt d 2 .outside
     ∷ portAt d 0 .catcher ∷ portAt d 1 .catcher ∷ portAt d 2 .catcher
     ∷ hiddenOf d ∷ []
 
 -- "Body 4: IEI, phase"
-unfoldable pub linesOf : Device → List ℕ
-linesOf d = cond (d .iei) 1 0 ∷ cond (d .phase) 1 0 ∷ []
+unfoldable pub linesBody : Device → List ℕ
+linesBody d = (if d .iei then 1 else 0) ∷ (if d .phase then 1 else 0) ∷ []
+
+-- the four together, as the call that writes them hands them out
+abbrev pub bodiesOf : Device → Bodies
+bodiesOf d = record { registers = registersBody d; counts = countsBody d; pins = pinsBody d; lines = linesBody d }
+
+-- the body of an id; and the bodies of some entries, one behind the other
+abbrev bodyOf : Device → ℕ → List ℕ
+bodyOf d id =
+    if id == 1 then registersBody d else
+    if id == 2 then countsBody d else
+    if id == 3 then pinsBody d else
+    if id == 4 then linesBody d else
+    []
+
+abbrev bodiesFrom : Device → List Entry → List ℕ
+bodiesFrom d [] = []
+bodiesFrom d (e ∷ es) = bodyOf d (e .id) ++ bodiesFrom d es
+
+-- the image of a record: "Contents first", then the bodies
+unfoldable pub imageOf : Device → List ℕ
+imageOf d = contentsOf (layoutOf d) ++ bodiesFrom d (layoutOf d .entries)

@@ -1,16 +1,53 @@
 // One counter/timer: its count, its output, its turn in a step, and a write of its command.
 ghost use mathlib.Core.Path.{_≡_};
-ghost use Rattle.rules.specs.Counters.{takes, loaded, lessOne, terminalOf, countOf, outputOf, linkOf, reachOf, counts, turnOf, frozenBy, triggeredBy, commandedBy, thawed, shown, enabledBy};
+ghost use Rattle.rules.specs.Counters.{continuous, countInput, triggerInput, gateInput, retrigger, square};
+ghost use Rattle.rules.specs.Counters.{takes, loaded, lessOne, terminalOf, countOf, outputOf, reachOf, counts, turnOf, frozenBy, triggeredBy, commandedBy};
 use rules::Counted;
 use rules::Counter;
 use rules::Link;
 use rules::Reach;
 
+fn continuous(c: Counter) -> bool
+    ensures { λ r. ⌜ r ≡ continuous c ⌝ }
+{
+    c.mode / 128 % 2 == 1
+}
+
+fn count_input(c: Counter) -> bool
+    ensures { λ r. ⌜ r ≡ countInput c ⌝ }
+{
+    c.mode / 32 % 2 == 1
+}
+
+fn trigger_input(c: Counter) -> bool
+    ensures { λ r. ⌜ r ≡ triggerInput c ⌝ }
+{
+    c.mode / 16 % 2 == 1
+}
+
+fn gate_input(c: Counter) -> bool
+    ensures { λ r. ⌜ r ≡ gateInput c ⌝ }
+{
+    c.mode / 8 % 2 == 1
+}
+
+fn retrigger(c: Counter) -> bool
+    ensures { λ r. ⌜ r ≡ retrigger c ⌝ }
+{
+    c.mode / 4 % 2 == 1
+}
+
+fn square(c: Counter) -> bool
+    ensures { λ r. ⌜ r ≡ square c ⌝ }
+{
+    c.mode % 4 == 2
+}
+
 // Whether a trigger is taken.
 fn takes_trigger(enabled: bool, c: Counter) -> bool
     ensures { λ r. ⌜ r ≡ takes enabled c ⌝ }
 {
-    enabled & (!c.cip | (c.mode / 4 % 2 == 1))
+    enabled & (!c.cip | retrigger(c))
 }
 
 fn load(c: Counter) -> Counter
@@ -34,13 +71,13 @@ fn at_terminal(c: Counter) -> Counter
     ensures { λ r. ⌜ r ≡ terminalOf c ⌝ }
 {
     let mut e = c;
-    if (c.mode % 4 == 2) & !c.half {
+    if square(c) & !c.half {
         e.count = c.constant;
         e.half = true;
         return e;
     }
     e.half = false;
-    if c.mode / 128 % 2 == 1 {
+    if continuous(c) {
         e.count = c.constant;
         return e;
     }
@@ -80,19 +117,6 @@ pub fn output(c: Counter) -> bool
     c.cip & c.half
 }
 
-// What LC makes of CT1's output before the step and after (b).
-pub fn link(lc: u8, before: bool, after: bool) -> Link
-    ensures { λ r. ⌜ r ≡ linkOf lc before after ⌝ }
-{
-    let rise = !before & after;
-    Link {
-        trigger: (lc == 2) & rise,
-        gate: !(lc == 1) | after,
-        only: lc == 3,
-        count: rise,
-    }
-}
-
 // The count that reaches a counter in a step.
 fn count_source(c: Counter, k: Link, timer: bool, were: u8, are: u8) -> bool
     ensures { λ r. ⌜ r ≡ reachOf c k timer were are .count ⌝ }
@@ -100,8 +124,9 @@ fn count_source(c: Counter, k: Link, timer: bool, were: u8, are: u8) -> bool
     if k.only {
         return k.count;
     }
-    if c.mode / 32 % 2 == 1 {
-        return !(were / 2 % 2 == 1) & (are / 2 % 2 == 1);
+    let count_rises = !(were / 2 % 2 == 1) & (are / 2 % 2 == 1);
+    if count_input(c) {
+        return count_rises;
     }
     timer
 }
@@ -110,9 +135,11 @@ fn reach(c: Counter, k: Link, timer: bool, were: u8, are: u8) -> Reach
     ensures { λ r. ⌜ r ≡ reachOf c k timer were are ⌝ }
 {
     let counted = count_source(c, k, timer, were, are);
+    let trigger_rises = !(were / 4 % 2 == 1) & (are / 4 % 2 == 1);
+    let gate_line = are / 8 % 2 == 1;
     Reach {
-        trigger: ((c.mode / 16 % 2 == 1) & (!(were / 4 % 2 == 1) & (are / 4 % 2 == 1))) | k.trigger,
-        gate: (!(c.mode / 8 % 2 == 1) | (are / 8 % 2 == 1)) & k.gate,
+        trigger: (trigger_input(c) & trigger_rises) | k.trigger,
+        gate: (!gate_input(c) | gate_line) & k.gate,
         count: counted,
     }
 }
@@ -167,40 +194,9 @@ fn trigger(v: bool, enabled: bool, c: Counter) -> Counter
 pub fn command(enabled: bool, b: u8, c: Counter) -> Counter
     ensures { λ r. ⌜ r ≡ commandedBy enabled b c ⌝ }
 {
+    let rcc = b / 8 % 2 == 1;
+    let triggered = b / 2 % 2 == 1;
     let mut e = c;
     e.gcb = b / 4 % 2 == 1;
-    trigger(b / 2 % 2 == 1, enabled, freeze(b / 8 % 2 == 1, e))
-}
-
-// What the read of the low byte leaves.
-pub fn thaw(c: Counter) -> Counter
-    ensures { λ r. ⌜ r ≡ thawed c ⌝ }
-{
-    let mut e = c;
-    e.rcc = false;
-    e.frozen = 0;
-    e
-}
-
-// The count as it reads.
-pub fn show(c: Counter) -> u16
-    ensures { λ r. ⌜ r ≡ shown c ⌝ }
-{
-    if c.rcc {
-        return c.frozen;
-    }
-    c.count
-}
-
-// A counter whose enable is written.
-pub fn enable(v: bool, c: Counter) -> Counter
-    ensures { λ r. ⌜ r ≡ enabledBy v c ⌝ }
-{
-    if v {
-        return c;
-    }
-    let mut off = c;
-    off.cip = false;
-    off.half = false;
-    off
+    trigger(triggered, enabled, freeze(rcc, e))
 }

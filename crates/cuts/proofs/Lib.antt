@@ -1,1 +1,1 @@
-pub mod Saved
+pub mod Night

@@ -41,7 +41,7 @@ says code value a b c int ieo t1 t2 t3 =
       c = c;
       int = eqb int 1;
       ieo = eqb ieo 1;
-      terminals = t1 ∷ t2 ∷ t3 ∷ [];
+      report = record { terminals = t1 ∷ t2 ∷ t3 ∷ [] };
     }
 
 -- ---- a claim
@@ -54,20 +54,20 @@ abbrev pub line : Event → Answer → Line
 line e a = record { event = e; answer = a }
 
 -- accepted, with pins at 0, no interrupt and no terminal: `0 00 00 00 0 0 1 0 0 0`; and a read so answered, with its value
-abbrev pub plain : Event → Line
-plain e = line e (says 0 0x00 0x00 0x00 0x0 0 1 0 0 0)
+abbrev pub accepted : Event → Line
+accepted e = line e (says 0 0x00 0x00 0x00 0x0 0 1 0 0 0)
 
 abbrev pub reads : ℕ → ℕ → Line
 reads address value = line (R address) (says 0 value 0x00 0x00 0x0 0 1 0 0 0)
 
 -- the answers to the events of a claim, each in the record that the one before it left
-unfoldable pub answersFrom : Outcome → List Line → List Answer
-answersFrom o [] = o .answer ∷ []
-answersFrom o (l ∷ ls) = o .answer ∷ answersFrom (eventOf (o .device) (l .event)) ls
+unfoldable pub answeredFrom : Outcome → List Line → List Answer
+answeredFrom o [] = o .answer ∷ []
+answeredFrom o (l ∷ ls) = o .answer ∷ answeredFrom (eventOf (o .device) (l .event)) ls
 
-unfoldable pub answersTo : List Line → List Answer
-answersTo [] = []
-answersTo (l ∷ ls) = answersFrom (eventOf freshOf (l .event)) ls
+unfoldable pub answersEach : List Line → List Answer
+answersEach [] = []
+answersEach (l ∷ ls) = answeredFrom (eventOf freshOf (l .event)) ls
 
 unfoldable pub expected : List Line → List Answer
 expected [] = []
@@ -76,4 +76,4 @@ expected (l ∷ ls) = l .answer ∷ expected ls
 -- every claim of a list is right
 abbrev pub Right : List (List Line) → Type 0
 Right [] = Unit {0}
-Right (p ∷ ps) = (answersTo p ≡ expected p) × Right ps
+Right (p ∷ ps) = (answersEach p ≡ expected p) × Right ps

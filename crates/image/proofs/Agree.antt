@@ -2,7 +2,7 @@
 -- Assumes nothing.
 use Prim.Native.Nat.{ℕ, suc, _+_, _<_, _≤_}
 use mathlib.Core.Path.{_≡_, refl, sym, ap, ap₂, subst, _∙_}
-use mathlib.Core.Bool.{Bool, true, false, _&&_}
+use mathlib.Core.Bool.{Bool, true, false, _&&_, false≢true}
 use mathlib.Core.List.{List, [], _∷_}
 use native.Mathlib.Numerals.{add-one}
 use borrow.Author.Tests.{eq-eqb, ne-eqb, eqb-true}
@@ -55,3 +55,17 @@ pub itself : (a : List ℕ) → agree a a ≡ true
 unfolding agree
 itself [] = refl
 itself (x ∷ a) = simp (eq-eqb x x refl, itself a)
+
+-- both ways
+pub alike : (a b : List ℕ) → a ≡ b → agree a b ≡ true
+alike a b e = ap (λ (l : List ℕ). agree l b) e ∙ itself b
+
+pub differ : (a b : List ℕ) → agree a b ≡ false → a ≡ b → ⊥
+differ a b f e = absurd (false≢true (sym f ∙ alike a b e))
+
+pub unlike : (a b : List ℕ) → (a ≡ b → ⊥) → agree a b ≡ false
+unlike a b h = not-same (agree a b) (λ t. h (same a b t))
+  where
+    not-same : (t : Bool) → (t ≡ true → ⊥) → t ≡ false
+    not-same true f = absurd (f refl)
+    not-same false f = refl

@@ -1,4 +1,4 @@
 pub mod Agree
-pub mod Whole
+pub mod Codes
 pub mod Answers
 pub mod RoundTrip

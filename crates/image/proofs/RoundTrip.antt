@@ -9,31 +9,33 @@ use mathlib.Core.List.{List}
 use borrow.Author.Tests.{eq-eqb, ne-eqb}
 use lib.ListN.{length, take, drop}
 use Rattle.rules.specs.declared.Device.{Device}
-use Rattle.rules.specs.Record.{Shaped, imageLen, freshOf}
+use Rattle.rules.specs.Record.{Shaped, freshOf}
 use Rattle.rules.specs.Sound.{soundOf}
-use Rattle.bodies.specs.Taken.{Bytes}
-use Rattle.image.specs.Image.{contents, imageOf, deviceIn, agree, saveCode, savedOf, restoredOf}
-use Rattle.image.proofs.Agree.{itself}
-use Rattle.image.proofs.Whole.{image-length, image-contents, image-clear, read-back, written-back, shaped}
+use Rattle.bodies.specs.Layout.{layoutOf, lengthOf, contentsOf}
+use Rattle.bodies.specs.Written.{imageOf}
+use Rattle.bodies.specs.Taken.{Bytes, deviceIn}
+use Rattle.bodies.proofs.Whole.{image-length, image-contents, image-clear, read-back, written-back, shaped}
+use Rattle.image.specs.Image.{saveCode, savedOf, restoredOf}
+use Rattle.image.proofs.Agree.{alike}
 use Rattle.image.proofs.Answers.{accepted, fresh, saved-sound, saved-image, rest}
 
 -- a sound record's image restores to that very record
 pub restored-image : (d : Device) → Shaped d → soundOf d ≡ true → restoredOf (imageOf d) ≡ record { code = 0; device = d }
 unfolding restoredOf
 restored-image d f s =
-    let long = eq-eqb (length (imageOf d)) imageLen (image-length d) in
-    let table = ap (λ (l : List ℕ). agree l contents) (image-contents d) ∙ itself contents in
+    let long = eq-eqb (length (imageOf d)) (lengthOf (layoutOf d)) (image-length d) in
+    let table = alike _ (contentsOf (layoutOf d)) (image-contents d) in
     simp (long, table, image-clear d, read-back d f, s)
 
 -- restoring what save wrote gives code 0 and that very record
 pub restored-saved : (d : Device) (e : List ℕ) → Shaped d → saveCode d (length e) ≡ 0
-    → restoredOf (take imageLen (savedOf d e)) ≡ record { code = 0; device = d }
+    → restoredOf (take (lengthOf (layoutOf d)) (savedOf d e)) ≡ record { code = 0; device = d }
 restored-saved d e f h = ap restoredOf (saved-image d e h) ∙ restored-image d f (saved-sound d (length e) h)
 
 -- an accepted image is, byte for byte, what saving its record writes
 pub accepted-written : (s : List ℕ) → Bytes s → restoredOf s .code ≡ 0 → imageOf (restoredOf s .device) ≡ s
 accepted-written s b h =
-    let a = accepted s h in ap imageOf (a .is) ∙ written-back s (a .long) b (a .table) (a .clear)
+    let a = accepted s h in ap imageOf (a .is) ∙ written-back s (a .long) b (a .clear) (a .table)
 
 -- an accepted image's record is sound, and one that the struct holds
 pub accepted-sound : (s : List ℕ) → restoredOf s .code ≡ 0 → soundOf (restoredOf s .device) ≡ true
@@ -55,5 +57,5 @@ pub refused-untouched : (d : Device) (e : List ℕ) → (saveCode d (length e) �
 unfolding savedOf
 refused-untouched d e h = simp (ne-eqb _ _ h)
 
-pub saved-rest : (d : Device) (e : List ℕ) → drop imageLen (savedOf d e) ≡ drop imageLen e
+pub saved-rest : (d : Device) (e : List ℕ) → drop (lengthOf (layoutOf d)) (savedOf d e) ≡ drop (lengthOf (layoutOf d)) e
 saved-rest d e = rest d e

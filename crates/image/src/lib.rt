@@ -4,7 +4,9 @@ ghost use mathlib.Core.List.{_++_};
 ghost use Prim.Native.Nat.{_≤_};
 ghost use lib.ListN.{length, drop};
 ghost use Rattle.rules.specs.Record.{imageLen};
-ghost use Rattle.image.specs.Image.{contents, imageOf, deviceIn, clearIn, agree, saveCode, savedOf, refused, restoredOf};
+ghost use Rattle.bodies.specs.Written.{imageOf};
+ghost use Rattle.bodies.specs.Taken.{deviceIn, clearIn};
+ghost use Rattle.image.specs.Image.{agree, saveCode, savedOf, refused, restoredOf};
 use rules::Device;
 
 // What a restore answers.
@@ -38,11 +40,12 @@ fn write(d: Device, buf: &mut [u8])
     ensures { λ _. ⌜ now (buf .exit) ≡ imageOf d ++ drop imageLen (now (buf .entry)) ⌝ }
 {
     let c = CONTENTS;
-    bits::lay(buf, 0, &c);
-    bits::lay(buf, 18, &writing::registers(d));
-    bits::lay(buf, 66, &writing_rest::counts(d));
-    bits::lay(buf, 75, &writing_rest::pins(d));
-    bits::lay(buf, 82, &writing_rest::lines(d));
+    let b = image_out::bodies(d);
+    basics::lay(buf, 0, &c);
+    basics::lay(buf, 18, &b.registers);
+    basics::lay(buf, 66, &b.counts);
+    basics::lay(buf, 75, &b.pins);
+    basics::lay(buf, 82, &b.lines);
 }
 
 // Saves a record into the first 84 bytes of a buffer. Codes: 9 for a record that is not sound, 7 for a buffer
@@ -50,7 +53,7 @@ fn write(d: Device, buf: &mut [u8])
 pub fn save(d: Device, buf: &mut [u8]) -> u8
     ensures { λ r. ⌜ (r ≡ saveCode d (length (now (buf .entry)))) × (now (buf .exit) ≡ savedOf d (now (buf .entry))) ⌝ }
 {
-    if !sound::sound(d) {
+    if !refusals::sound(d) {
         return 9;
     }
     if buf.len() < Device::IMAGE_LEN {
@@ -64,20 +67,14 @@ fn is_clear(s: &[u8]) -> bool
     requires { ⌜ length (now s) ≡ imageLen ⌝ }
     ensures { λ r. ⌜ r ≡ clearIn (now (s .entry)) ⌝ }
 {
-    unused::registers_clear(&s[18..66])
-        & unused::counts_clear(&s[66..75])
-        & unused::pins_clear(&s[75..82])
-        & unused::lines_clear(&s[82..84])
+    image_in::clear(&s[18..66], &s[66..75], &s[75..82], &s[82..84])
 }
 
 fn read(s: &[u8]) -> Device
     requires { ⌜ length (now s) ≡ imageLen ⌝ }
     ensures { λ r. ⌜ r ≡ deviceIn (now (s .entry)) ⌝ }
 {
-    let registers = reading::read_registers(&s[18..66]);
-    let counts = reading_rest::read_counts(registers, &s[66..75]);
-    let pins = reading_rest::read_pins(counts, &s[75..82]);
-    reading_rest::read_lines(pins, &s[82..84])
+    image_in::device(&s[18..66], &s[66..75], &s[75..82], &s[82..84])
 }
 
 fn refuse(code: u8) -> Restored
@@ -105,7 +102,7 @@ pub fn restore(s: &[u8]) -> Restored
         return refuse(9);
     }
     let e = read(s);
-    if !sound::sound(e) {
+    if !refusals::sound(e) {
         return refuse(9);
     }
     Restored { code: 0, device: e }

@@ -8,9 +8,10 @@ use native.Mathlib.Nat.{add-zero}
 use native.Mathlib.Numerals.{add-one}
 use native.Mathlib.Omega.{arith}
 use borrow.Author.Tests.{eq-eqb, ne-eqb}
-use lib.Dec.{eqb}
 use lib.ListN.{length, getD, take, drop, drop-of-length-le}
 use lib.Seq.{drop-cons}
+use Rattle.basics.specs.Signs.{_==_}
+use Rattle.texts.specs.Answers.{lineFeed}
 use Rattle.texts.specs.Kept.{noText, pushed}
 use Rattle.lines.specs.Lines.{saysOf}
 use Rattle.lines.specs.Pieces.{lineLen, cutFrom, saidIn, keptAfter}
@@ -19,11 +20,11 @@ use Rattle.texts.specs.declared.Text.{Text}
 
 -- from place i
 module _ (t : Text) (i : ℕ) (l : List ℕ) (h : i < length l) where
-  pub cut-whole : getD l i 0 ≡ 10 → cutFrom t i (drop i l) ≡ record { text = t; next = i + 1; whole = true }
+  pub cut-whole : getD l i 0 ≡ lineFeed → cutFrom t i (drop i l) ≡ record { text = t; next = i + 1; whole = true }
   unfolding cutFrom
   cut-whole e = ap (cutFrom t i) (drop-cons l i 0 h) ∙ (simp (eq-eqb _ _ e, add-one))
 
-  pub cut-more : (getD l i 0 ≡ 10 → ⊥) → cutFrom t i (drop i l) ≡ cutFrom (pushed t (getD l i 0)) (i + 1) (drop (i + 1) l)
+  pub cut-more : (getD l i 0 ≡ lineFeed → ⊥) → cutFrom t i (drop i l) ≡ cutFrom (pushed t (getD l i 0)) (i + 1) (drop (i + 1) l)
   unfolding cutFrom
   cut-more e = ap (cutFrom t i) (drop-cons l i 0 h) ∙ (simp (ne-eqb _ _ e, add-one))
 
@@ -40,10 +41,10 @@ pub record Cuts (t : Text) (i : ℕ) (m : List ℕ) (c : Cut) : Type 0 where
 pub cuts : (t : Text) (i : ℕ) (m : List ℕ) → Cuts t i m (cutFrom t i m)
 unfolding cutFrom lineLen saidIn keptAfter
 cuts t i [] = record { next = sym (add-zero i); said = refl; kept = refl }
-cuts t i (b ∷ rest) = by-feed (eqb b 10) refl (cuts (pushed t b) (suc i) rest)
+cuts t i (b ∷ rest) = by-feed (b == lineFeed) refl (cuts (pushed t b) (suc i) rest)
   where
-    by-feed : (f : Bool) → eqb b 10 ≡ f → Cuts (pushed t b) (suc i) rest (cutFrom (pushed t b) (suc i) rest)
-        → Cuts t i (b ∷ rest) (cond (eqb b 10) (record { text = t; next = suc i; whole = true }) (cutFrom (pushed t b) (suc i) rest))
+    by-feed : (f : Bool) → b == lineFeed ≡ f → Cuts (pushed t b) (suc i) rest (cutFrom (pushed t b) (suc i) rest)
+        → Cuts t i (b ∷ rest) (cond (b == lineFeed) (record { text = t; next = suc i; whole = true }) (cutFrom (pushed t b) (suc i) rest))
     by-feed true e r = record { next = simp e (sym (add-one i)); said = simp e; kept = simp e }
     by-feed false e r =
         let n = r .next in

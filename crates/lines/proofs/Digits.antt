@@ -11,7 +11,7 @@ use borrow.Author.Tests.{lt-ltb, le-ltb, le-leb, lt-leb, ltb-true, ltb-false}
 use lib.Dec.{leb, ltb}
 use lib.ListN.{length, getD, drop, drop-of-length-le}
 use lib.Seq.{drop-cons}
-use Rattle.lines.specs.Lines.{digitOf, decimal, valueOf, clocksIn}
+use Rattle.lines.specs.Lines.{digitOf, allDecimal, valueOf, clocksIn}
 
 -- the same number, read as the code does
 unfoldable pub readOn : ℕ → List ℕ → ℕ
@@ -26,7 +26,7 @@ value-le n [] = omega arith
 value-le n (d ∷ ds) = let h : n * 10 + digitOf d ≤ valueOf (n * 10 + digitOf d) ds = value-le (n * 10 + digitOf d) ds in omega arith
 
 abbrev bounded : ℕ → List ℕ → ℕ
-bounded n ds = cond (decimal ds && leb (valueOf n ds) 4294967295) (valueOf n ds) 4294967296
+bounded n ds = cond (allDecimal ds && leb (valueOf n ds) 4294967295) (valueOf n ds) 4294967296
 
 no-right : {A : Type 0} (a b : Bool) (x y : A) → b ≡ false → cond (a && b) x y ≡ y
 no-right true b x y e = simp e
@@ -35,17 +35,19 @@ no-right false b x y e = refl
 step : (n d : ℕ) (ds : List ℕ) (p q : Bool) → ltb 9 (digitOf d) ≡ p → ltb 4294967295 (n * 10 + digitOf d) ≡ q
     → (n * 10 + digitOf d ≤ 4294967295 → readOn (n * 10 + digitOf d) ds ≡ bounded (n * 10 + digitOf d) ds)
     → readOn n (d ∷ ds) ≡ bounded n (d ∷ ds)
-unfolding readOn decimal valueOf
+unfolding readOn allDecimal valueOf
 step n d ds true q e f ih = simp (e, le-ltb (digitOf d) 10 (ltb-true 9 (digitOf d) e))
 step n d ds false true e f ih =
-    let m : 4294967295 < valueOf (n * 10 + digitOf d) ds = le-trans (ltb-true 4294967295 (n * 10 + digitOf d) f) (value-le (n * 10 + digitOf d) ds) in
-    simp (e, f, lt-ltb (digitOf d) 10 (omega (arith, ltb-false 9 (digitOf d) e))) (sym (no-right (decimal ds) (leb (valueOf (n * 10 + digitOf d) ds) 4294967295) (valueOf (n * 10 + digitOf d) ds) 4294967296 (lt-leb _ _ m)))
+    let v = valueOf (n * 10 + digitOf d) ds in
+    let m : 4294967295 < v = le-trans (ltb-true 4294967295 (n * 10 + digitOf d) f) (value-le (n * 10 + digitOf d) ds) in
+    simp (e, f, lt-ltb (digitOf d) 10 (omega (arith, ltb-false 9 (digitOf d) e)))
+    (sym (no-right (allDecimal ds) (leb v 4294967295) v 4294967296 (lt-leb _ _ m)))
 step n d ds false false e f ih =
     let h : digitOf d < 10 = omega (arith, ltb-false 9 (digitOf d) e) in
     simp (e, f, lt-ltb (digitOf d) 10 h) (ih (ltb-false 4294967295 (n * 10 + digitOf d) f))
 
 pub reads : (n : ℕ) (ds : List ℕ) → n ≤ 4294967295 → readOn n ds ≡ bounded n ds
-unfolding readOn decimal valueOf
+unfolding readOn allDecimal valueOf
 reads n [] h = simp (le-leb n 4294967295 h)
 reads n (d ∷ ds) h = step n d ds (ltb 9 (digitOf d)) (ltb 4294967295 (n * 10 + digitOf d)) refl refl (λ g. reads (n * 10 + digitOf d) ds g)
 

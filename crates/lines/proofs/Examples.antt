@@ -2,13 +2,27 @@
 -- Assumes nothing.
 use Prim.Native.Nat.{ℕ}
 use mathlib.Core.Path.{_≡_, refl}
-use mathlib.Core.Bool.{true, false}
+use mathlib.Core.Bool.{false}
 use mathlib.Core.List.{List, [], _∷_}
-use Rattle.rules.specs.declared.Answer.{Answer}
+use Rattle.rules.specs.Report.{noReport}
 use Rattle.lines.specs.declared.Line.{Line}
 use Rattle.lines.specs.declared.Line.the-variants.{Unreadable}
-use Rattle.texts.specs.Answers.{glyphOf, hexText, nibbleText, flagText, placeText, decimalText, countText, answerText}
-use Rattle.lines.specs.Lines.{said, digitOf, numberOf, numbersOf, saidBy, decimal, valueOf, clocksIn, plain, clocksOf, wordsOf, lineOf}
+use Rattle.texts.specs.Answers.{glyphOf, hexText, nibbleText, flagText, placeText, decimalText, countText, reportText, answerText}
+use Rattle.texts.specs.Spelled.{spelled}
+use Rattle.lines.specs.Lines.{
+  said,
+  digitOf,
+  numberOf,
+  numbersOf,
+  saidBy,
+  allDecimal,
+  valueOf,
+  clocksIn,
+  noLeadingZeros,
+  clocksOf,
+  wordsOf,
+  lineOf,
+}
 
 -- a line and what it says
 pub record Reading : Type 0 where
@@ -21,33 +35,26 @@ Read (r ∷ rs) = (lineOf (r .line) ≡ r .says) × Read rs
 
 abbrev pub readings : List Reading
 readings =
-    -- W 0A C6
-    record { line = 87 ∷ 32 ∷ 48 ∷ 65 ∷ 32 ∷ 67 ∷ 54 ∷ []; says = said 1 10 198 0 }
-    -- T 6
-    ∷ record { line = 84 ∷ 32 ∷ 54 ∷ []; says = said 4 6 0 0 }
-    -- K
-    ∷ record { line = 75 ∷ []; says = said 5 0 0 0 }
-    -- R 30
-    ∷ record { line = 82 ∷ 32 ∷ 51 ∷ 48 ∷ []; says = said 2 48 0 0 }
-    -- T 0, T 01
-    ∷ record { line = 84 ∷ 32 ∷ 48 ∷ []; says = said 4 0 0 0 }
-    ∷ record { line = 84 ∷ 32 ∷ 48 ∷ 49 ∷ []; says = Unreadable }
-    -- T 4294967295, T 4294967296
-    ∷ record { line = 84 ∷ 32 ∷ 52 ∷ 50 ∷ 57 ∷ 52 ∷ 57 ∷ 54 ∷ 55 ∷ 50 ∷ 57 ∷ 53 ∷ []; says = said 4 4294967295 0 0 }
-    ∷ record { line = 84 ∷ 32 ∷ 52 ∷ 50 ∷ 57 ∷ 52 ∷ 57 ∷ 54 ∷ 55 ∷ 50 ∷ 57 ∷ 54 ∷ []; says = Unreadable }
-    -- no byte; R 3a; X and a carriage return; K 00
-    ∷ record { line = []; says = Unreadable }
-    ∷ record { line = 82 ∷ 32 ∷ 51 ∷ 97 ∷ []; says = Unreadable }
-    ∷ record { line = 88 ∷ 13 ∷ []; says = Unreadable }
-    ∷ record { line = 75 ∷ 32 ∷ 48 ∷ 48 ∷ []; says = Unreadable }
+    record { line = spelled "W 0A C6"; says = said 1 0x0A 0xC6 0 }
+    ∷ record { line = spelled "T 6"; says = said 4 6 0 0 }
+    ∷ record { line = spelled "K"; says = said 5 0 0 0 }
+    ∷ record { line = spelled "R 30"; says = said 2 0x30 0 0 }
+    ∷ record { line = spelled "T 0"; says = said 4 0 0 0 }
+    ∷ record { line = spelled "T 01"; says = Unreadable }
+    ∷ record { line = spelled "T 4294967295"; says = said 4 4294967295 0 0 }
+    ∷ record { line = spelled "T 4294967296"; says = Unreadable }
+    ∷ record { line = spelled ""; says = Unreadable }
+    ∷ record { line = spelled "R 3a"; says = Unreadable }
+    ∷ record { line = spelled "X\r"; says = Unreadable }
+    ∷ record { line = spelled "K 00"; says = Unreadable }
     ∷ []
 
 pub read : Read readings
-unfolding lineOf wordsOf clocksOf plain clocksIn valueOf decimal saidBy numbersOf numberOf digitOf
+unfolding lineOf wordsOf clocksOf noLeadingZeros clocksIn valueOf allDecimal saidBy numbersOf numberOf digitOf spelled
 read = (refl, (refl, (refl, (refl, (refl, (refl, (refl, (refl, (refl, (refl, (refl, (refl, tt))))))))))))
 
--- 0 A4 00 00 0 0 0 0 0 0
-pub written : answerText (record { code = 0; value = 164; a = 0; b = 0; c = 0; int = false; ieo = false; terminals = 0 ∷ 0 ∷ 0 ∷ [] })
-    ≡ 48 ∷ 32 ∷ 65 ∷ 52 ∷ 32 ∷ 48 ∷ 48 ∷ 32 ∷ 48 ∷ 48 ∷ 32 ∷ 48 ∷ 32 ∷ 48 ∷ 32 ∷ 48 ∷ 32 ∷ 48 ∷ 32 ∷ 48 ∷ 32 ∷ 48 ∷ 10 ∷ []
-unfolding answerText countText decimalText placeText flagText nibbleText hexText glyphOf
+-- the answer to K in the worked example
+pub written : answerText (record { code = 0; value = 0xA4; a = 0; b = 0; c = 0; int = false; ieo = false; report = noReport })
+    ≡ spelled "0 A4 00 00 0 0 0 0 0 0\n"
+unfolding answerText reportText countText decimalText placeText flagText nibbleText hexText glyphOf spelled
 written = refl

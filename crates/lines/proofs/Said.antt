@@ -1,22 +1,24 @@
 -- What a letter with two or three numbers says: nothing where a number is above 255, or where the letter is another.
 -- Assumes nothing.
+use Prim.Native.Char.{code}
 use Prim.Native.Nat.{ℕ}
-use mathlib.Core.Bool.{Bool, true, false, _||_, cond}
-use mathlib.Core.List.{List, [], _∷_}
+use mathlib.Core.Bool.{Bool, true, false, _||_}
+use mathlib.Core.List.{[], _∷_}
 use mathlib.Core.Path.{_≡_, refl}
-use lib.Dec.{eqb, ltb}
+use lib.Dec.{ltb}
+use Rattle.basics.specs.Signs.{if_then_else_, _==_}
 use Rattle.lines.specs.declared.Line.{Line}
 use Rattle.lines.specs.declared.Line.the-variants.{Unreadable}
 use Rattle.lines.specs.Lines.{said, saidBy}
 
 unfoldable pub choice : Bool → Bool → Line → Line
-choice above is l = cond above Unreadable (cond is l Unreadable)
+choice above is l = if above then Unreadable else if is then l else Unreadable
 
-pub two : (k a b : ℕ) → choice (ltb 255 a || ltb 255 b) (eqb k 87) (said 1 a b 0) ≡ saidBy k (a ∷ b ∷ [])
+pub two : (k a b : ℕ) → choice (ltb 255 a || ltb 255 b) (k == code "W") (said 1 a b 0) ≡ saidBy k (a ∷ b ∷ [])
 unfolding choice saidBy
 two k a b = refl
 
-pub three : (k a b c : ℕ) → choice (ltb 255 a || ltb 255 b || ltb 255 c) (eqb k 80) (said 3 a b c) ≡ saidBy k (a ∷ b ∷ c ∷ [])
+pub three : (k a b c : ℕ) → choice (ltb 255 a || ltb 255 b || ltb 255 c) (k == code "P") (said 3 a b c) ≡ saidBy k (a ∷ b ∷ c ∷ [])
 unfolding choice saidBy
 three k a b c = refl
 

@@ -5,10 +5,11 @@ use mathlib.Core.Bool.{Bool, true, false, cond}
 use mathlib.Core.List.{List, [], _∷_, _++_, map, append-assoc}
 use mathlib.Core.Path.{_≡_, refl, sym, ap, _∙_}
 use borrow.Author.Tests.{ne-eqb}
-use lib.Dec.{eqb}
+use Rattle.basics.specs.Signs.{_==_}
+use Rattle.texts.specs.Answers.{lineFeed}
 use Rattle.texts.specs.Kept.{noText, pushed, typed}
 use Rattle.lines.specs.Lines.{lineOf, saysOf}
-use Rattle.lines.specs.Pieces.{lastOf, linesFrom, linesOf, saidIn, keptAfter, saidLast, saidAll, joined}
+use Rattle.lines.specs.Pieces.{lastOf, linesFrom, inputLines, saidIn, keptAfter, saidLast, saidAll, inputOf}
 use Rattle.lines.specs.declared.Line.{Line}
 use Rattle.texts.specs.declared.Text.{Text}
 use Rattle.texts.proofs.Keeping.{some-kept}
@@ -19,7 +20,7 @@ use Rattle.texts.proofs.Typing.{typed-append}
 pub kept-append : (t : Text) (p q : List ℕ) → keptAfter t (p ++ q) ≡ keptAfter (keptAfter t p) q
 unfolding keptAfter
 kept-append t [] q = refl
-kept-append t (b ∷ p) q = by-feed (eqb b 10) (kept-append noText p q) (kept-append (pushed t b) p q)
+kept-append t (b ∷ p) q = by-feed (b == lineFeed) (kept-append noText p q) (kept-append (pushed t b) p q)
   where
     by-feed : (f : Bool) → keptAfter noText (p ++ q) ≡ keptAfter (keptAfter noText p) q
         → keptAfter (pushed t b) (p ++ q) ≡ keptAfter (keptAfter (pushed t b) p) q
@@ -31,7 +32,7 @@ kept-append t (b ∷ p) q = by-feed (eqb b 10) (kept-append noText p q) (kept-ap
 pub said-append : (t : Text) (p q : List ℕ) → saidIn t (p ++ q) ≡ saidIn t p ++ saidIn (keptAfter t p) q
 unfolding saidIn keptAfter
 said-append t [] q = refl
-said-append t (b ∷ p) q = by-feed (eqb b 10) (said-append noText p q) (said-append (pushed t b) p q)
+said-append t (b ∷ p) q = by-feed (b == lineFeed) (said-append noText p q) (said-append (pushed t b) p q)
   where
     by-feed : (f : Bool) → saidIn noText (p ++ q) ≡ saidIn noText p ++ saidIn (keptAfter noText p) q
         → saidIn (pushed t b) (p ++ q) ≡ saidIn (pushed t b) p ++ saidIn (keptAfter (pushed t b) p) q
@@ -40,15 +41,15 @@ said-append t (b ∷ p) q = by-feed (eqb b 10) (said-append noText p q) (said-ap
     by-feed true at-feed in-line = ap (λ (ls : List Line). saysOf t ∷ ls) at-feed
     by-feed false at-feed in-line = in-line
 
-pub said-joined : (t : Text) (ps : List (List ℕ)) → saidAll t ps ≡ saidIn t (joined ps) ++ saidLast (keptAfter t (joined ps))
-unfolding saidAll joined saidIn keptAfter
+pub said-joined : (t : Text) (ps : List (List ℕ)) → saidAll t ps ≡ saidIn t (inputOf ps) ++ saidLast (keptAfter t (inputOf ps))
+unfolding saidAll inputOf saidIn keptAfter
 said-joined t [] = refl
 said-joined t (p ∷ ps) =
     ap (λ (ls : List Line). saidIn t p ++ ls) (said-joined (keptAfter t p) ps)
-    ∙ sym (append-assoc (saidIn t p) (saidIn (keptAfter t p) (joined ps)) (saidLast (keptAfter (keptAfter t p) (joined ps))))
+    ∙ sym (append-assoc (saidIn t p) (saidIn (keptAfter t p) (inputOf ps)) (saidLast (keptAfter (keptAfter t p) (inputOf ps))))
     ∙ sym
-    (ap (λ (ls : List Line). ls ++ saidLast (keptAfter t (p ++ joined ps))) (said-append t p (joined ps))
-    ∙ ap (λ (u : Text). saidIn t p ++ saidIn (keptAfter t p) (joined ps) ++ saidLast u) (kept-append t p (joined ps)))
+    (ap (λ (ls : List Line). ls ++ saidLast (keptAfter t (p ++ inputOf ps))) (said-append t p (inputOf ps))
+    ∙ ap (λ (u : Text). saidIn t p ++ saidIn (keptAfter t p) (inputOf ps) ++ saidLast u) (kept-append t p (inputOf ps)))
 
 -- ---- one piece is its lines
 some-line : (b : ℕ) (w : List ℕ) → saidLast (typed noText (b ∷ w)) ≡ lineOf (b ∷ w) ∷ []
@@ -64,7 +65,7 @@ last-line (b ∷ w) = some-line b w
 from-line : (w input : List ℕ) → saidIn (typed noText w) input ++ saidLast (keptAfter (typed noText w) input) ≡ map lineOf (linesFrom w input)
 unfolding saidIn keptAfter linesFrom typed
 from-line w [] = last-line w
-from-line w (b ∷ rest) = by-feed (eqb b 10) (from-line [] rest) (from-line (w ++ (b ∷ [])) rest)
+from-line w (b ∷ rest) = by-feed (b == lineFeed) (from-line [] rest) (from-line (w ++ (b ∷ [])) rest)
   where
     by-feed : (f : Bool)
         → saidIn noText rest ++ saidLast (keptAfter noText rest) ≡ map lineOf (linesFrom [] rest)
@@ -77,6 +78,6 @@ from-line w (b ∷ rest) = by-feed (eqb b 10) (from-line [] rest) (from-line (w 
     by-feed false at-feed in-line =
         ap (λ (u : Text). saidIn u rest ++ saidLast (keptAfter u rest)) (sym (typed-append noText w (b ∷ []))) ∙ in-line
 
-pub said-lines : (ps : List (List ℕ)) → saidAll noText ps ≡ map lineOf (linesOf (joined ps))
+pub said-lines : (ps : List (List ℕ)) → saidAll noText ps ≡ map lineOf (inputLines (inputOf ps))
 unfolding typed
-said-lines ps = said-joined noText ps ∙ from-line [] (joined ps)
+said-lines ps = said-joined noText ps ∙ from-line [] (inputOf ps)

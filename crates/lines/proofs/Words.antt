@@ -1,16 +1,19 @@
 -- A line's bytes as the numbers after its letter.
 -- Assumes nothing.
+use Prim.Native.Char.{code}
 use Prim.Native.Nat.{ℕ, zero, suc, _+_, _-_, _≤_, _<_}
-use mathlib.Core.Bool.{Bool, true, false, not, _&&_, _||_, cond}
+use mathlib.Core.Bool.{Bool, true, false, not, _&&_, _||_, or-true}
 use mathlib.Core.List.{List, [], _∷_}
 use mathlib.Core.Path.{_≡_, refl, sym, ap, _∙_}
 use native.Mathlib.Numerals.{add-one}
 use native.Mathlib.Omega.{arith}
 use borrow.Author.Tests.{lt-ltb, le-ltb, eq-eqb, ne-eqb}
-use lib.Dec.{eqb, ltb}
+use lib.Dec.{ltb}
 use lib.ListN.{length, getD, drop, length-drop, drop-of-length-le}
 use lib.Seq.{drop-cons}
-use Rattle.lines.specs.Lines.{said, numberOf, numbersOf, saidBy, plain, clocksIn, clocksOf, wordsOf, lineOf}
+use Rattle.basics.specs.Signs.{if_then_else_, _==_}
+use Rattle.texts.specs.Answers.{space}
+use Rattle.lines.specs.Lines.{said, numberOf, numbersOf, saidBy, noLeadingZeros, clocksIn, clocksOf, wordsOf, lineMost, lineOf}
 use Rattle.lines.specs.declared.Line.the-variants.{Unreadable}
 use Rattle.lines.specs.declared.Line.{Line}
 
@@ -35,9 +38,14 @@ pub numbers-end : (l : List ℕ) (i : ℕ) → length l ≤ i → numbersOf (dro
 unfolding numbersOf
 numbers-end l i h = ap numbersOf (drop-of-length-le l h)
 
-or-true : (a : Bool) (x : Line) → cond (a || true) Unreadable x ≡ Unreadable
-or-true true x = refl
-or-true false x = refl
+-- a last number that is none
+no-second : (letter a : ℕ) → saidBy letter (a ∷ 256 ∷ []) ≡ Unreadable
+unfolding saidBy
+no-second letter a = simp (or-true (ltb 255 a))
+
+no-third : (letter a b : ℕ) → saidBy letter (a ∷ b ∷ 256 ∷ []) ≡ Unreadable
+unfolding saidBy
+no-third letter a b = simp (or-true (ltb 255 a || ltb 255 b))
 
 -- bytes that are no one, two or three numbers say nothing
 pub no-numbers : (letter : ℕ) (m : List ℕ) → (length m ≡ 0 → ⊥) → (length m ≡ 3 → ⊥) → (length m ≡ 6 → ⊥) → (length m ≡ 9 → ⊥)
@@ -47,11 +55,11 @@ no-numbers letter [] p q r s = absurd (p refl)
 no-numbers letter (a ∷ []) p q r s = refl
 no-numbers letter (a ∷ b ∷ []) p q r s = refl
 no-numbers letter (a ∷ b ∷ c ∷ []) p q r s = absurd (q refl)
-no-numbers letter (a ∷ b ∷ c ∷ d ∷ []) p q r s = or-true (ltb 255 (numberOf a b c)) (cond (eqb letter 87) (said 1 (numberOf a b c) 256 0) Unreadable)
-no-numbers letter (a ∷ b ∷ c ∷ d ∷ e ∷ []) p q r s = or-true (ltb 255 (numberOf a b c)) (cond (eqb letter 87) (said 1 (numberOf a b c) 256 0) Unreadable)
+no-numbers letter (a ∷ b ∷ c ∷ d ∷ []) p q r s = no-second letter (numberOf a b c)
+no-numbers letter (a ∷ b ∷ c ∷ d ∷ e ∷ []) p q r s = no-second letter (numberOf a b c)
 no-numbers letter (a ∷ b ∷ c ∷ d ∷ e ∷ f ∷ []) p q r s = absurd (r refl)
-no-numbers letter (a ∷ b ∷ c ∷ d ∷ e ∷ f ∷ g ∷ []) p q r s = or-true (ltb 255 (numberOf a b c) || ltb 255 (numberOf d e f)) (cond (eqb letter 80) (said 3 (numberOf a b c) (numberOf d e f) 256) Unreadable)
-no-numbers letter (a ∷ b ∷ c ∷ d ∷ e ∷ f ∷ g ∷ h ∷ []) p q r s = or-true (ltb 255 (numberOf a b c) || ltb 255 (numberOf d e f)) (cond (eqb letter 80) (said 3 (numberOf a b c) (numberOf d e f) 256) Unreadable)
+no-numbers letter (a ∷ b ∷ c ∷ d ∷ e ∷ f ∷ g ∷ []) p q r s = no-third letter (numberOf a b c) (numberOf d e f)
+no-numbers letter (a ∷ b ∷ c ∷ d ∷ e ∷ f ∷ g ∷ h ∷ []) p q r s = no-third letter (numberOf a b c) (numberOf d e f)
 no-numbers letter (a ∷ b ∷ c ∷ d ∷ e ∷ f ∷ g ∷ h ∷ i ∷ []) p q r s = absurd (s refl)
 no-numbers letter (a ∷ b ∷ c ∷ d ∷ e ∷ f ∷ g ∷ h ∷ i ∷ j ∷ []) p q r s = refl
 no-numbers letter (a ∷ b ∷ c ∷ d ∷ e ∷ f ∷ g ∷ h ∷ i ∷ j ∷ k ∷ []) p q r s = refl
@@ -62,21 +70,21 @@ one-more zero k p e = absurd (p refl)
 one-more (suc n) k p e = omega arith
 
 by-letter : (l : List ℕ) → (length l ≡ 0 → ⊥)
-    → wordsOf l ≡ cond (eqb (getD l 0 0) 84) (clocksOf (drop 1 l)) (saidBy (getD l 0 0) (numbersOf (drop 1 l)))
+    → wordsOf l ≡ (if getD l 0 0 == code "T" then clocksOf (drop 1 l) else saidBy (getD l 0 0) (numbersOf (drop 1 l)))
 unfolding wordsOf
 by-letter [] p = absurd (p refl)
 by-letter (letter ∷ rest) p = refl
 
--- ---- a line of at most 80 bytes, and not empty
-module _ (l : List ℕ) (short : length l ≤ 80) (some : length l ≡ 0 → ⊥) where
-  line-at : lineOf l ≡ cond (eqb (getD l 0 0) 84) (clocksOf (drop 1 l)) (saidBy (getD l 0 0) (numbersOf (drop 1 l)))
+-- ---- a line that is not too long, and not empty
+module _ (l : List ℕ) (short : length l ≤ lineMost) (some : length l ≡ 0 → ⊥) where
+  line-at : lineOf l ≡ (if getD l 0 0 == code "T" then clocksOf (drop 1 l) else saidBy (getD l 0 0) (numbersOf (drop 1 l)))
   unfolding lineOf
-  line-at = simp (le-ltb 80 (length l) short) (by-letter l some)
+  line-at = simp (le-ltb lineMost (length l) short) (by-letter l some)
 
-  pub clocks-line : getD l 0 0 ≡ 84 → lineOf l ≡ clocksOf (drop 1 l)
+  pub clocks-line : getD l 0 0 ≡ code "T" → lineOf l ≡ clocksOf (drop 1 l)
   clocks-line e = line-at ∙ (simp (eq-eqb _ _ e))
 
-  module _ (other : getD l 0 0 ≡ 84 → ⊥) where
+  module _ (other : getD l 0 0 ≡ code "T" → ⊥) where
     pub numbers-line : lineOf l ≡ saidBy (getD l 0 0) (numbersOf (drop 1 l))
     numbers-line = line-at ∙ (simp (ne-eqb _ _ other))
 
@@ -120,18 +128,18 @@ empty-line (a ∷ l) e = absurd (omega arith)
 
 -- ---- after a T
 pub clocks-short : (l : List ℕ) → length l < 3 → clocksOf (drop 1 l) ≡ Unreadable
-unfolding clocksOf plain
+unfolding clocksOf noLeadingZeros
 clocks-short [] h = refl
 clocks-short (a ∷ []) h = refl
-clocks-short (a ∷ b ∷ []) h = no-plain (eqb b 32) (ltb (clocksIn []) 4294967296) (said 4 (clocksIn []) 0 0)
+clocks-short (a ∷ b ∷ []) h = no-plain (b == space) (ltb (clocksIn []) 4294967296) (said 4 (clocksIn []) 0 0)
   where
-    no-plain : (e x : Bool) (y : Line) → cond (e && false && x) y Unreadable ≡ Unreadable
+    no-plain : (e x : Bool) (y : Line) → (if e && false && x then y else Unreadable) ≡ Unreadable
     no-plain true x y = refl
     no-plain false x y = refl
 clocks-short (a ∷ b ∷ d ∷ l) h = absurd (omega arith)
 
 pub clocks-at : (l : List ℕ) → 3 ≤ length l
-    → clocksOf (drop 1 l) ≡ cond (eqb (getD l 1 0) 32 && plain (drop 2 l) && ltb (clocksIn (drop 2 l)) 4294967296) (said 4 (clocksIn (drop 2 l)) 0 0) Unreadable
+    → clocksOf (drop 1 l) ≡ (if getD l 1 0 == space && noLeadingZeros (drop 2 l) && ltb (clocksIn (drop 2 l)) 4294967296 then said 4 (clocksIn (drop 2 l)) 0 0 else Unreadable)
 unfolding clocksOf
 clocks-at [] h = absurd (omega arith)
 clocks-at (a ∷ []) h = absurd (omega arith)
@@ -145,11 +153,11 @@ and-true : (a : Bool) → not (a && true) ≡ not a
 and-true true = refl
 and-true false = refl
 
-pub plain-at : (l : List ℕ) → 3 ≤ length l → plain (drop 2 l) ≡ not (eqb (getD l 2 0) 48 && ltb 3 (length l))
-unfolding plain
+pub plain-at : (l : List ℕ) → 3 ≤ length l → noLeadingZeros (drop 2 l) ≡ not (getD l 2 0 == code "0" && ltb 3 (length l))
+unfolding noLeadingZeros
 plain-at [] h = absurd (omega arith)
 plain-at (a ∷ []) h = absurd (omega arith)
 plain-at (a ∷ b ∷ []) h = absurd (omega arith)
-plain-at (a ∷ b ∷ d ∷ []) h = sym (and-false (eqb d 48))
+plain-at (a ∷ b ∷ d ∷ []) h = sym (and-false (d == code "0"))
 plain-at (a ∷ b ∷ d ∷ e ∷ l) h =
-    sym (ap (λ (t : Bool). not (eqb d 48 && t)) (lt-ltb 3 (length (a ∷ b ∷ d ∷ e ∷ l)) (omega arith)) ∙ and-true (eqb d 48))
+    sym (ap (λ (t : Bool). not (d == code "0" && t)) (lt-ltb 3 (length (a ∷ b ∷ d ∷ e ∷ l)) (omega arith)) ∙ and-true (d == code "0"))

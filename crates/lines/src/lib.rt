@@ -3,9 +3,7 @@ mod pieces;
 mod reading;
 
 pub use pieces::cut_from;
-pub use reading::event_in;
-pub use reading::meaning;
-pub use reading::says;
+pub use reading::event_of_line;
 use rules::Event;
 use texts::Text;
 

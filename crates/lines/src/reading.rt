@@ -6,8 +6,11 @@ ghost use lib.ListN.{length, drop, getD};
 ghost use Rattle.lines.specs.Lines.{said as saidOf, digitOf, numberOf, saidBy, clocksIn, clocksOf, lineOf, saysOf, eventIn};
 use crate::Line;
 use rules::Event;
-use texts::MOST;
+use texts::ROOM;
 use texts::Text;
+
+// The most bytes of a line.
+const MOST: usize = 80;
 
 fn said(kind: u32, a: u32, b: u32, c: u32) -> Line
     ensures { λ r. ⌜ r ≡ saidOf kind a b c ⌝ }
@@ -18,17 +21,11 @@ fn said(kind: u32, a: u32, b: u32, c: u32) -> Line
 fn digit(b: u8) -> u32
     ensures { λ r. ⌜ (r ≡ digitOf b) × (r ≤ 16) ⌝ }
 {
-    if b < 48 {
-        return 16;
+    if (b'0' <= b) & (b <= b'9') {
+        return (b - b'0') as u32;
     }
-    if b < 58 {
-        return (b - 48) as u32;
-    }
-    if b < 65 {
-        return 16;
-    }
-    if b < 71 {
-        return (b - 55) as u32;
+    if (b'A' <= b) & (b <= b'F') {
+        return 10 + (b - b'A') as u32;
     }
     16
 }
@@ -50,10 +47,10 @@ fn bare(letter: u8) -> Line
     ensures { λ r. ⌜ r ≡ saidBy letter [] ⌝ }
 {
     if letter == b'X' {
-        return said(0, 0, 0, 0);
+        return said(Event::X, 0, 0, 0);
     }
     if letter == b'K' {
-        return said(5, 0, 0, 0);
+        return said(Event::K, 0, 0, 0);
     }
     Line::Unreadable
 }
@@ -65,10 +62,10 @@ fn with_one(letter: u8, a: u32) -> Line
         return Line::Unreadable;
     }
     if letter == b'R' {
-        return said(2, a, 0, 0);
+        return said(Event::R, a, 0, 0);
     }
     if letter == b'E' {
-        return said(6, a, 0, 0);
+        return said(Event::E, a, 0, 0);
     }
     Line::Unreadable
 }
@@ -80,7 +77,7 @@ fn with_two(letter: u8, a: u32, b: u32) -> Line
         return Line::Unreadable;
     }
     if letter == b'W' {
-        return said(1, a, b, 0);
+        return said(Event::W, a, b, 0);
     }
     Line::Unreadable
 }
@@ -92,7 +89,7 @@ fn with_three(letter: u8, a: u32, b: u32, c: u32) -> Line
         return Line::Unreadable;
     }
     if letter == b'P' {
-        return said(3, a, b, c);
+        return said(Event::P, a, b, c);
     }
     Line::Unreadable
 }
@@ -135,11 +132,11 @@ fn clocks(s: &[u8]) -> Line
     if 4294967295 < n {
         return Line::Unreadable;
     }
-    said(4, n as u32, 0, 0)
+    said(Event::T, n as u32, 0, 0)
 }
 
 // What a line of these bytes says, its line feed not among them.
-pub fn meaning(s: &[u8]) -> Line
+fn meaning(s: &[u8]) -> Line
     ensures { λ r. ⌜ r ≡ lineOf (now (s .entry)) ⌝ }
 {
     let n = s.len();
@@ -162,20 +159,20 @@ pub fn meaning(s: &[u8]) -> Line
     }
 }
 
-// What a line says that is kept.
-pub fn says(t: Text) -> Line
+// What a line says that is kept; one that found no room is too long as well.
+fn says(t: Text) -> Line
     ensures { λ r. ⌜ r ≡ saysOf t ⌝ }
 {
     let n = t.len;
-    if MOST < n {
+    if ROOM < n {
         return Line::Unreadable;
     }
     let b = t.bytes;
     meaning(&b[..n])
 }
 
-// The event of a line; an unreadable one is answered as a kind above 6 is.
-pub fn event_in(l: Line) -> Event
+// An unreadable line is answered as a kind above 6 is.
+fn event_in(l: Line) -> Event
     ensures { λ r. ⌜ r ≡ eventIn l ⌝ }
 {
     match l {
@@ -187,4 +184,11 @@ pub fn event_in(l: Line) -> Event
             c: 0,
         },
     }
+}
+
+// The event of a line that is kept.
+pub fn event_of_line(t: Text) -> Event
+    ensures { λ r. ⌜ r ≡ eventIn (saysOf t) ⌝ }
+{
+    event_in(says(t))
 }

@@ -5,5 +5,5 @@ use libc::STDIN_FILENO;
 use libc::STDOUT_FILENO;
 
 fn main() {
-    nightly::night_arguments(STDIN_FILENO, STDOUT_FILENO, STDERR_FILENO);
+    image_files::night_arguments(STDIN_FILENO, STDOUT_FILENO, STDERR_FILENO);
 }

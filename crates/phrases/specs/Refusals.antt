@@ -1,36 +1,44 @@
 -- What is said of a file after its name: why an image is refused, with paper 01's number, or why a file cannot be used.
 -- Assumes nothing.
 use Prim.Native.Nat.{ℕ}
-use mathlib.Core.Bool.{Bool, cond}
+use mathlib.Core.Bool.{Bool}
 use mathlib.Core.List.{List, _++_}
-use lib.Dec.{eqb, ltb}
+use lib.Dec.{ltb}
+use Rattle.basics.specs.Signs.{if_then_else_, _==_}
 use Rattle.rules.specs.Record.{imageLen}
-use Rattle.phrases.specs.Spelled.{spelled}
+use Rattle.texts.specs.Answers.{decimalText}
+use Rattle.texts.specs.Spelled.{spelled}
 
+-- ---- images
 -- "7 | save buffer under 84 bytes, or image not 84 bytes", for a file of n bytes
+unfoldable pub side : ℕ → List ℕ
+side n = if ltb imageLen n then spelled ": refused 7 (over " else spelled ": refused 7 (under "
+
 unfoldable pub notWhole : ℕ → List ℕ
-notWhole n = cond (ltb imageLen n) (spelled ": refused 7 (over 84 bytes)\n") (spelled ": refused 7 (under 84 bytes)\n")
+notWhole n = side n ++ decimalText imageLen ++ spelled " bytes)\n"
 
 -- "8 | image's first 18 bytes differ from the table", "9 | record or bodies break the soundness rules"
 unfoldable pub refusal : ℕ → ℕ → List ℕ
 refusal code n =
-    cond (eqb code 7) (notWhole n)
-    (cond (eqb code 8) (spelled ": refused 8 (contents differ)\n")
-    (spelled ": refused 9 (bodies unsound)\n"))
+    if code == 7 then notWhole n else
+    if code == 8 then spelled ": refused 8 (contents differ)\n" else
+    spelled ": refused 9 (bodies unsound)\n"
 
 -- ---- files
+-- what was tried
 unfoldable pub attempt : Bool → List ℕ
-attempt writing = cond writing (spelled ": cannot be written: ") (spelled ": cannot be read: ")
+attempt writing = if writing then spelled ": cannot be written: " else spelled ": cannot be read: "
 
--- the reasons that have words of their own
+-- what the system says of it; the reasons that have words of their own are numbered
 unfoldable pub reason : ℕ → List ℕ
 reason why =
-    cond (eqb why 0) (spelled "no such file or folder\n")
-    (cond (eqb why 1) (spelled "not permitted\n")
-    (cond (eqb why 2) (spelled "a folder\n")
-    (cond (eqb why 3) (spelled "not in a folder\n")
-    (cond (eqb why 4) (spelled "no space\n")
-    (spelled "the system refuses\n")))))
+    if why == 0 then spelled "no such file or folder\n" else
+    if why == 1 then spelled "not permitted\n" else
+    if why == 2 then spelled "a folder\n" else
+    if why == 3 then spelled "not in a folder\n" else
+    if why == 4 then spelled "no space\n" else
+    spelled "the system refuses\n"
 
+-- the two together, after the file's name
 unfoldable pub trouble : Bool → ℕ → List ℕ
 trouble writing why = attempt writing ++ reason why

@@ -1,19 +1,26 @@
 // What is said of a file after its name.
 ghost use mathlib.Core.Path.{_≡_};
 ghost use Rattle.texts.specs.Kept.{noText, typed};
-ghost use Rattle.phrases.specs.Refusals.{notWhole, refusal, attempt as attemptOf, reason as reasonOf, trouble};
+ghost use Rattle.phrases.specs.Refusals.{side as sideOf, notWhole, refusal, attempt as attemptOf, reason as reasonOf, trouble};
 use crate::word;
 use rules::Device;
 use texts::Text;
 
-fn not_whole(n: usize) -> Text
-    ensures { λ r. ⌜ r ≡ typed noText (notWhole n) ⌝ }
+fn side(n: usize) -> Text
+    ensures { λ r. ⌜ r ≡ typed noText (sideOf n) ⌝ }
 {
     let t = texts::no_text();
     if Device::IMAGE_LEN < n {
-        return word(t, b": refused 7 (over 84 bytes)\n");
+        return word(t, b": refused 7 (over ");
     }
-    word(t, b": refused 7 (under 84 bytes)\n")
+    word(t, b": refused 7 (under ")
+}
+
+fn not_whole(n: usize) -> Text
+    ensures { λ r. ⌜ r ≡ typed noText (notWhole n) ⌝ }
+{
+    let t = texts::decimal(side(n), Device::IMAGE_LEN as u32);
+    word(t, b" bytes)\n")
 }
 
 // Why an image of n bytes is refused, by the code of the refusal.

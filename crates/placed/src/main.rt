@@ -99,8 +99,8 @@ fn step(p: Pair, i: usize) -> Pair {
     let h = event::event(f, e);
     let a = o.answer;
     let b = h.answer;
-    printing::print(STDOUT_FILENO, texts::answer_text(a));
-    printing::print(STDOUT_FILENO, texts::answer_text(b));
+    console::print(STDOUT_FILENO, texts::answer_text(a));
+    console::print(STDOUT_FILENO, texts::answer_text(b));
     let x = o.device;
     let y = h.device;
     print_same(x, y);

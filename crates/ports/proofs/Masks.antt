@@ -5,14 +5,14 @@ use mathlib.Core.Path.{_≡_}
 use mathlib.Core.Bool.{Bool, true, false, not, _&&_, _||_, Bool·beq, cond}
 use lib.Dec.{eqb, ltb, lit<, eqb→eq}
 use lib.Bits.{bitAnd, bitOr, bitXor, and-lt, or-lt, xor-lt}
-use Rattle.rules.specs.Byte.{bit, differs, byteOf, every}
+use Rattle.basics.specs.Byte.{bit, differs, byteOf, every}
 use Rattle.rules.specs.declared.Counter.{Counter}
 use Rattle.rules.specs.declared.Port.{Port}
 use Rattle.rules.specs.Counters.{outputEnabled, outputOf}
 use Rattle.rules.specs.PortData.{pinBit, pathBit, catches, caughtBit, seenBit, standing, outputBit, clearedBit, putOf}
 use Rattle.rules.specs.Patterns.{onBit, hitBit}
-use Rattle.bits.proofs.Truth.{all3, all4, all5, all6, same}
-use Rattle.bits.proofs.Laws.{bit-and, bit-or, bit-xor, ones, by-bits, below, bit-byte, byte-lt, inside}
+use Rattle.basics.proofs.Truth.{all3, all4, all5, all6, same}
+use Rattle.basics.proofs.Laws.{bit-and, bit-or, bit-xor, ones, by-bits, below, bit-byte, byte-lt, inside}
 
 -- the bits that have a catcher, from the port's enable, direction and special
 pub places-bits : (e : Bool) (i s : ℕ) → i < 256 → s < 256

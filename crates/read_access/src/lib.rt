@@ -1,30 +1,41 @@
 // What the register at an address reads, and what the read leaves.
 ghost use mathlib.Core.Path.{_≡_};
 ghost use Prim.Native.Nat.{_<_};
-ghost use Rattle.rules.specs.Record.{counterAt, withCounter};
+ghost use Rattle.rules.specs.Record.{counterAt};
+ghost use Rattle.rules.specs.With.{withCounter};
 ghost use Rattle.rules.specs.Registers.{kindOf};
-ghost use Rattle.rules.specs.Counters.{thawed};
+ghost use Rattle.rules.specs.Counters.{thawed, shown};
 ghost use Rattle.rules.specs.Access.{portCommand, counterCommand, readOf, afterRead};
 ghost use Rattle.registers.specs.Place.{place, places};
+use rules::Counter;
 use rules::Device;
 use rules::Kind;
+use rules::Source;
 
 fn port_command(d: Device, p: usize) -> u8
     requires { ⌜ p < 2 ⌝ }
     ensures { λ r. ⌜ r ≡ portCommand d p ⌝ }
 {
-    let s = d.sources[1 + 2 * p];
-    let q = d.patterns[p];
-    sources::port_command(s, q)
+    let k = Source::of_port(p);
+    sources::port_command(d.sources[k], d.patterns[p])
 }
 
 fn counter_command(d: Device, i: usize) -> u8
     requires { ⌜ i < 3 ⌝ }
     ensures { λ r. ⌜ r ≡ counterCommand d i ⌝ }
 {
-    let s = d.sources[4 - 2 * i];
-    let c = d.counters[i];
-    sources::counter_command(s, c)
+    let k = Source::of_counter(i);
+    sources::counter_command(d.sources[k], d.counters[i])
+}
+
+// The count as it reads.
+fn show(c: Counter) -> u16
+    ensures { λ r. ⌜ r ≡ shown c ⌝ }
+{
+    if c.rcc {
+        return c.frozen;
+    }
+    c.count
 }
 
 fn read_kind(d: Device, k: Kind) -> u8
@@ -40,9 +51,9 @@ fn read_kind(d: Device, k: Kind) -> u8
         Kind::Special(p) => d.ports[p].special,
         Kind::PortCommand(p) => port_command(d, p),
         Kind::CounterCommand(i) => counter_command(d, i),
-        Kind::Data(p) => device::data_at(d, p),
-        Kind::Current(i, high) => bits::byte_in(high, counters::show(d.counters[i])),
-        Kind::Constant(i, high) => bits::byte_in(high, d.counters[i].constant),
+        Kind::Data(p) => levels::data_at(d, p),
+        Kind::Current(i, high) => basics::byte_in(high, show(d.counters[i])),
+        Kind::Constant(i, high) => basics::byte_in(high, d.counters[i].constant),
         Kind::CounterMode(i) => d.counters[i].mode,
         Kind::CurrentVector => interrupts::current_vector(d),
         Kind::PortMode(p) => d.patterns[p].mode,
@@ -54,31 +65,6 @@ fn read_kind(d: Device, k: Kind) -> u8
     }
 }
 
-fn thaw(d: Device, i: usize) -> Device
-    requires { ⌜ i < 3 ⌝ }
-    ensures { λ r. ⌜ r ≡ withCounter d i (thawed (counterAt d i)) ⌝ }
-{
-    let c = counters::thaw(d.counters[i]);
-    let mut e = d;
-    e.counters[i] = c;
-    e
-}
-
-fn after_read_kind(d: Device, k: Kind) -> Device
-    requires { ⌜ place k < places k ⌝ }
-    ensures { λ r. ⌜ r ≡ afterRead d k ⌝ }
-{
-    match k {
-        Kind::Current(i, high) => {
-            if high {
-                return d;
-            }
-            thaw(d, i)
-        }
-        _ => d,
-    }
-}
-
 // The byte that a register reads.
 pub fn read(d: Device, address: u32) -> u8
     ensures { λ r. ⌜ r ≡ readOf d (kindOf address) ⌝ }
@@ -86,9 +72,26 @@ pub fn read(d: Device, address: u32) -> u8
     read_kind(d, registers::kind_of(address))
 }
 
+// What the read of a low byte leaves of counter i.
+fn thaw(d: Device, i: usize) -> Device
+    requires { ⌜ i < 3 ⌝ }
+    ensures { λ r. ⌜ r ≡ withCounter d i (thawed (counterAt d i)) ⌝ }
+{
+    let mut c = d.counters[i];
+    c.rcc = false;
+    c.frozen = 0;
+    let mut e = d;
+    e.counters[i] = c;
+    e
+}
+
 // The record after a read.
 pub fn after_read(d: Device, address: u32) -> Device
-    ensures { λ r. ⌜ r ≡ afterRead d (kindOf address) ⌝ }
+    ensures { λ r. ⌜ r ≡ afterRead d address ⌝ }
 {
-    after_read_kind(d, registers::kind_of(address))
+    let low_byte = (0x10 <= address) & (address <= 0x15) & (address % 2 == 1);
+    if low_byte {
+        return thaw(d, ((address - 0x10) / 2) as usize);
+    }
+    d
 }

@@ -75,11 +75,11 @@ fn same_source_at(d: Device, e: Device, k: usize) -> bool
 fn same_sources(d: Device, e: Device) -> bool
     ensures { λ r. ⌜ r ≡ sameSources d e ⌝ }
 {
-    same_source_at(d, e, 0)
-        & same_source_at(d, e, 1)
-        & same_source_at(d, e, 2)
-        & same_source_at(d, e, 3)
-        & same_source_at(d, e, 4)
+    same_source_at(d, e, Source::CT3)
+        & same_source_at(d, e, Source::A)
+        & same_source_at(d, e, Source::CT2)
+        & same_source_at(d, e, Source::B)
+        & same_source_at(d, e, Source::CT1)
 }
 
 fn same_counter_at(d: Device, e: Device, i: usize) -> bool

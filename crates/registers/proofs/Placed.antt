@@ -5,7 +5,7 @@ use mathlib.Core.Path.{_≡_, refl}
 use mathlib.Core.Bool.{Bool, true, false}
 use lib.Dec.{ltb, lit<, ltb→lt}
 use Rattle.rules.specs.Registers.{portKind, kindIn, kindOf}
-use Rattle.bits.proofs.Laws.{below}
+use Rattle.basics.proofs.Laws.{below}
 use Rattle.registers.specs.Place.{place, places}
 
 at-least : (b : Bool) (a : ℕ) → ltb a 48 ≡ b → place (kindOf a) < places (kindOf a)

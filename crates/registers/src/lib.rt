@@ -1,6 +1,6 @@
 // What kind each of the 48 registers is, and what a write of it refuses.
 ghost use mathlib.Core.Path.{_≡_};
-ghost use Rattle.rules.specs.Registers.{kindOf, readOnly, later, laterPortMode, laterConfig, laterCounterMode, kept};
+ghost use Rattle.rules.specs.Registers.{kindOf};
 use rules::Device;
 use rules::Kind;
 
@@ -64,55 +64,4 @@ pub fn kind_of(address: u32) -> Kind
         return KINDS[a];
     }
     Kind::Absent
-}
-
-pub fn later_port_mode(b: u8) -> bool
-    ensures { λ r. ⌜ r ≡ laterPortMode b ⌝ }
-{
-    !(b / 64 == 0) | (b / 2 % 4 == 3) | (b % 2 == 1)
-}
-
-pub fn later_config(b: u8) -> bool
-    ensures { λ r. ⌜ r ≡ laterConfig b ⌝ }
-{
-    b / 8 % 2 == 1
-}
-
-pub fn later_counter_mode(b: u8) -> bool
-    ensures { λ r. ⌜ r ≡ laterCounterMode b ⌝ }
-{
-    b % 4 == 3
-}
-
-// Whether the register is only read.
-pub fn read_only(k: Kind) -> bool
-    ensures { λ r. ⌜ r ≡ readOnly k ⌝ }
-{
-    match k {
-        Kind::Current(_, _) => true,
-        Kind::CurrentVector => true,
-        _ => false,
-    }
-}
-
-// Whether the byte is a setting left to later requests.
-pub fn is_later(k: Kind, b: u8) -> bool
-    ensures { λ r. ⌜ r ≡ later k b ⌝ }
-{
-    match k {
-        Kind::Config => later_config(b),
-        Kind::CounterMode(_) => later_counter_mode(b),
-        Kind::PortMode(_) => later_port_mode(b),
-        _ => false,
-    }
-}
-
-// What port p keeps of a byte: Port C four bits.
-pub fn keep(p: usize, b: u8) -> u8
-    ensures { λ r. ⌜ r ≡ kept p b ⌝ }
-{
-    if p == 2 {
-        return b % 16;
-    }
-    b
 }

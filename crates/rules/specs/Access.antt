@@ -1,6 +1,6 @@
 -- Paper 01, "Registers": what each kind of register reads, what a read does, and the direct effect (a) of a write.
 -- Assumes nothing.
-use Prim.Native.Nat.{ℕ, _+_, _/_, _%_}
+use Prim.Native.Nat.{ℕ, _+_, _-_, _/_, _%_}
 use mathlib.Core.Bool.{Bool, true, false, not, _&&_, _||_, cond}
 use mathlib.Core.List.{List, [], _∷_}
 use Rattle.rules.specs.declared.Device.{Device}
@@ -9,12 +9,14 @@ use Rattle.rules.specs.declared.Port.{Port}
 use Rattle.rules.specs.declared.Pattern.{Pattern}
 use Rattle.rules.specs.declared.Kind.{Kind}
 use Rattle.rules.specs.declared.Kind.the-variants.{Master, Config, Vector, Polarity, Direction, Special, PortCommand, CounterCommand, Data, Current, Constant, CounterMode, CurrentVector, PortMode, Handshake, PatternPolarity, Transition, Mask, Absent}
-use Rattle.rules.specs.Byte.{bit, byteIn, withByte}
-use Rattle.rules.specs.Record.{portAt, patternAt, counterAt, sourceAt, ofPort, ofCounter, withMaster, withConfig, withVector, withPort, withPattern, withCounter, withSource, resetOf}
+use lib.Dec.{eqb, leb}
+use Rattle.basics.specs.Signs.{if_then_else_, _==_, within}
+use Rattle.basics.specs.Byte.{bit, byteIn, withByte}
+use Rattle.rules.specs.With.{withMaster, withConfig, withVector, withPort, withPattern, withCounter, withCounters, withSource, withPolarity, withDirection, withSpecial, withConstant, withMode, withPortMode, withHandshake, withPatternPolarity, withTransition, withMask, withIoe}
+use Rattle.rules.specs.Record.{portAt, patternAt, counterAt, sourceAt, ofPort, ofCounter, resetOf}
 use Rattle.rules.specs.Registers.{kept, counterOn, counterEnabled, commanded, portCommandOf, counterCommandOf}
 use Rattle.rules.specs.PortData.{dataAt, writtenData}
 use Rattle.rules.specs.Counters.{commandedBy, thawed, shown, enabledBy}
-use Rattle.rules.specs.Patterns.{withIoe}
 use Rattle.rules.specs.Interrupts.{vectorRead, currentVector}
 
 -- the command registers of port p and of counter i, as read
@@ -46,71 +48,21 @@ readOf d (Transition p) = patternAt d p .transition
 readOf d (Mask p) = patternAt d p .mask
 readOf d Absent = 0
 
--- "reading that low byte returns it, then RCC = 0": the record after the read
-unfoldable pub afterRead : Device → Kind → Device
-afterRead d Master = d
-afterRead d Config = d
-afterRead d (Vector v) = d
-afterRead d (Polarity p) = d
-afterRead d (Direction p) = d
-afterRead d (Special p) = d
-afterRead d (PortCommand p) = d
-afterRead d (CounterCommand i) = d
-afterRead d (Data p) = d
-afterRead d (Current i high) = cond high d (withCounter d i (thawed (counterAt d i)))
-afterRead d (Constant i high) = d
-afterRead d (CounterMode i) = d
-afterRead d CurrentVector = d
-afterRead d (PortMode p) = d
-afterRead d (Handshake p) = d
-afterRead d (PatternPolarity p) = d
-afterRead d (Transition p) = d
-afterRead d (Mask p) = d
-afterRead d Absent = d
+-- "reading that low byte returns it, then RCC = 0": the record after the read of address a; the low bytes are 11H, 13H, 15H
+unfoldable pub afterRead : Device → ℕ → Device
+afterRead d a =
+    if within 0x10 0x15 a && bit a 0 then withCounter d ((a - 0x10) / 2) (thawed (counterAt d ((a - 0x10) / 2))) else d
 
 -- ---- the parts of a write
 -- "Reset (.. or D0 written 1 to 00)"; "Writing D0 = 0 to 00 stores the whole byte."
 unfoldable pub masterWritten : Device → ℕ → Device
-masterWritten d b = cond (bit b 0) (resetOf d) (withMaster d b)
+masterWritten d b = if bit b 0 then resetOf d else withMaster d b
 
 -- "Clearing an enable clears CIP and half"
 unfoldable pub configWritten : Device → ℕ → Device
 configWritten d b =
-    withConfig d b
+    withCounters (withConfig d b)
     (enabledBy (counterOn b 0) (counterAt d 0) ∷ enabledBy (counterOn b 1) (counterAt d 1) ∷ enabledBy (counterOn b 2) (counterAt d 2) ∷ [])
-
-abbrev pub withPolarity : Port → ℕ → Port
-withPolarity q b =
-    record {
-      polarity = b;
-      direction = q .direction;
-      special = q .special;
-      output = q .output;
-      outside = q .outside;
-      catcher = q .catcher;
-    }
-
-abbrev pub withDirection : Port → ℕ → Port
-withDirection q b =
-    record {
-      polarity = q .polarity;
-      direction = b;
-      special = q .special;
-      output = q .output;
-      outside = q .outside;
-      catcher = q .catcher;
-    }
-
-abbrev pub withSpecial : Port → ℕ → Port
-withSpecial q b =
-    record {
-      polarity = q .polarity;
-      direction = q .direction;
-      special = b;
-      output = q .output;
-      outside = q .outside;
-      catcher = q .catcher;
-    }
 
 -- a command to port p: "D0 IOE (written)"
 unfoldable pub portCommanded : Device → ℕ → ℕ → Device
@@ -121,45 +73,6 @@ portCommanded d p b =
 unfoldable pub counterCommanded : Device → ℕ → ℕ → Device
 counterCommanded d i b =
     withSource (withCounter d i (commandedBy (counterEnabled d i) b (counterAt d i))) (ofCounter i) (commanded (sourceAt d (ofCounter i)) (b / 32))
-
-abbrev pub withConstant : Counter → ℕ → Counter
-withConstant c n =
-    record {
-      mode = c .mode;
-      constant = n;
-      count = c .count;
-      frozen = c .frozen;
-      rcc = c .rcc;
-      gcb = c .gcb;
-      cip = c .cip;
-      half = c .half;
-    }
-
-abbrev pub withMode : Counter → ℕ → Counter
-withMode c b =
-    record {
-      mode = b;
-      constant = c .constant;
-      count = c .count;
-      frozen = c .frozen;
-      rcc = c .rcc;
-      gcb = c .gcb;
-      cip = c .cip;
-      half = c .half;
-    }
-
--- a port's mode, handshake and pattern registers
-abbrev pub withRegisters : Pattern → ℕ → ℕ → ℕ → ℕ → ℕ → Pattern
-withRegisters q m h p t k =
-    record {
-      mode = m;
-      handshake = h;
-      polarity = p;
-      transition = t;
-      mask = k;
-      ioe = q .ioe;
-      pmf = q .pmf;
-    }
 
 -- ---- the record after the direct effect of a write
 unfoldable pub writtenOf : Device → Kind → ℕ → Device
@@ -176,14 +89,9 @@ writtenOf d (Current i high) b = d
 writtenOf d (Constant i high) b = withCounter d i (withConstant (counterAt d i) (withByte high (counterAt d i .constant) b))
 writtenOf d (CounterMode i) b = withCounter d i (withMode (counterAt d i) b)
 writtenOf d CurrentVector b = d
-writtenOf d (PortMode p) b =
-    let q = patternAt d p in withPattern d p (withRegisters q b (q .handshake) (q .polarity) (q .transition) (q .mask))
-writtenOf d (Handshake p) b =
-    let q = patternAt d p in withPattern d p (withRegisters q (q .mode) b (q .polarity) (q .transition) (q .mask))
-writtenOf d (PatternPolarity p) b =
-    let q = patternAt d p in withPattern d p (withRegisters q (q .mode) (q .handshake) b (q .transition) (q .mask))
-writtenOf d (Transition p) b =
-    let q = patternAt d p in withPattern d p (withRegisters q (q .mode) (q .handshake) (q .polarity) b (q .mask))
-writtenOf d (Mask p) b =
-    let q = patternAt d p in withPattern d p (withRegisters q (q .mode) (q .handshake) (q .polarity) (q .transition) b)
+writtenOf d (PortMode p) b = withPattern d p (withPortMode (patternAt d p) b)
+writtenOf d (Handshake p) b = withPattern d p (withHandshake (patternAt d p) b)
+writtenOf d (PatternPolarity p) b = withPattern d p (withPatternPolarity (patternAt d p) b)
+writtenOf d (Transition p) b = withPattern d p (withTransition (patternAt d p) b)
+writtenOf d (Mask p) b = withPattern d p (withMask (patternAt d p) b)
 writtenOf d Absent b = d

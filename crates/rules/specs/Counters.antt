@@ -3,11 +3,13 @@
 use Prim.Native.Nat.{ℕ, _+_, _-_, _%_}
 use mathlib.Core.Bool.{Bool, true, false, not, _&&_, _||_, cond}
 use lib.Dec.{eqb}
+use Rattle.basics.specs.Signs.{if_then_else_, _==_}
+use Rattle.basics.specs.Byte.{bit, rises}
+use Rattle.rules.specs.With.{withCount, withFrozen, withRcc, withGcb, withCip, withHalf}
 use Rattle.rules.specs.declared.Counter.{Counter}
 use Rattle.rules.specs.declared.Counted.{Counted}
 use Rattle.rules.specs.declared.Link.{Link}
 use Rattle.rules.specs.declared.Reach.{Reach}
-use Rattle.rules.specs.Byte.{bit, rises}
 
 -- "Counter modes D7 down: continuous, output, count input, trigger input, gate input enables, retrigger,
 -- then 00 pulse, 01 one-shot, 10 square."
@@ -30,21 +32,7 @@ abbrev pub retrigger : Counter → Bool
 retrigger c = bit (c .mode) 2
 
 abbrev pub square : Counter → Bool
-square c = eqb (c .mode % 4) 2
-
--- the counter at another count, CIP and half
-abbrev pub at : Counter → ℕ → Bool → Bool → Counter
-at c n running second =
-    record {
-      mode = c .mode;
-      constant = c .constant;
-      count = n;
-      frozen = c .frozen;
-      rcc = c .rcc;
-      gcb = c .gcb;
-      cip = running;
-      half = second;
-    }
+square c = c .mode % 4 == 2
 
 -- "It is taken when the counter is enabled, and CIP = 0 or retrigger = 1"
 unfoldable pub takes : Bool → Counter → Bool
@@ -52,7 +40,7 @@ takes enabled c = enabled && (not (c .cip) || retrigger c)
 
 -- "count = time constant, CIP = 1, first half"
 unfoldable pub loaded : Counter → Counter
-loaded c = at c (c .constant) true false
+loaded c = withHalf (withCip (withCount c (c .constant)) true) false
 
 -- "one less modulo 65,536, so time constant 0 means 65,536", over the modulus
 abbrev pub lessOne : ℕ → ℕ → ℕ
@@ -62,19 +50,19 @@ lessOne modulus n = (n + (modulus - 1)) % modulus
 -- else CIP = 0, first half, and count stays 0."
 unfoldable pub terminalOf : Counter → Counter
 terminalOf c =
-    cond (square c && not (c .half)) (at c (c .constant) (c .cip) true)
-    (cond (continuous c) (at c (c .constant) (c .cip) false)
-    (at c 0 false false))
+    if square c && not (c .half) then withHalf (withCount c (c .constant)) true else
+    if continuous c then withHalf (withCount c (c .constant)) false else
+    withHalf (withCip (withCount c 0) false) false
 
+-- "The count becomes one less modulo 65,536": one count, and whether it was terminal
 unfoldable pub countOf : Counter → Counted
 countOf c =
-    cond (eqb (lessOne 65536 (c .count)) 0)
-    (record { counter = terminalOf c; terminal = true })
-    (record { counter = at c (lessOne 65536 (c .count)) (c .cip) (c .half); terminal = false })
+    if lessOne 65536 (c .count) == 0 then record { counter = terminalOf c; terminal = true }
+    else record { counter = withCount c (lessOne 65536 (c .count)); terminal = false }
 
 -- "Output: pulse = CIP and count 1; one-shot = CIP; square = CIP and second half."
 unfoldable pub outputOf : Counter → Bool
-outputOf c = c .cip && cond (eqb (c .mode % 4) 0) (eqb (c .count) 1) (cond (eqb (c .mode % 4) 1) true (c .half))
+outputOf c = c .cip && (if c .mode % 4 == 0 then c .count == 1 else if c .mode % 4 == 1 then true else c .half)
 
 -- LC 00, and what reaches the counters 1 and 3: nothing of a link
 abbrev pub unlinked : Link
@@ -85,9 +73,9 @@ unlinked = record { trigger = false; gate = true; only = false; count = false }
 unfoldable pub linkOf : ℕ → Bool → Bool → Link
 linkOf lc before after =
     record {
-      trigger = eqb lc 2 && rises before after;
-      gate = not (eqb lc 1) || after;
-      only = eqb lc 3;
+      trigger = lc == 2 && rises before after;
+      gate = not (lc == 1) || after;
+      only = lc == 3;
       count = rises before after;
     }
 
@@ -99,7 +87,7 @@ reachOf c link timer were are =
     record {
       trigger = (triggerInput c && rises (bit were 2) (bit are 2)) || link .trigger;
       gate = (not (gateInput c) || bit are 3) && link .gate;
-      count = cond (link .only) (link .count) (cond (countInput c) (rises (bit were 1) (bit are 1)) timer);
+      count = if link .only then link .count else if countInput c then rises (bit were 1) (bit are 1) else timer;
     }
 
 -- "A count happens when enabled, CIP = 1, GCB = 1, the enabled gate line is 1, and" a count reaches it
@@ -109,56 +97,31 @@ counts enabled reach c = enabled && c .cip && c .gcb && reach .gate && reach .co
 -- a counter's turn in a step; "A load replaces a decrement."
 unfoldable pub turnOf : Bool → Reach → Counter → Counted
 turnOf enabled reach c =
-    cond (reach .trigger && takes enabled c) (record { counter = loaded c; terminal = false })
-    (cond (counts enabled reach c) (countOf c)
-    (record { counter = c; terminal = false }))
+    if reach .trigger && takes enabled c then record { counter = loaded c; terminal = false } else
+    if counts enabled reach c then countOf c else
+    record { counter = c; terminal = false }
 
 -- ---- a write of a counter's command: "One write acts as command, GCB, RCC, trigger."
-abbrev pub withGcb : Counter → Bool → Counter
-withGcb c v =
-    record {
-      mode = c .mode;
-      constant = c .constant;
-      count = c .count;
-      frozen = c .frozen;
-      rcc = c .rcc;
-      gcb = v;
-      cip = c .cip;
-      half = c .half;
-    }
-
-abbrev pub withFrozen : Counter → Bool → ℕ → Counter
-withFrozen c v n =
-    record {
-      mode = c .mode;
-      constant = c .constant;
-      count = c .count;
-      frozen = n;
-      rcc = v;
-      gcb = c .gcb;
-      cip = c .cip;
-      half = c .half;
-    }
-
 -- "Writing 1 to RCC when it is 0 freezes the count read at 10H-15H .. Writing RCC 0 does nothing."
 unfoldable pub frozenBy : Bool → Counter → Counter
-frozenBy v c = cond (v && not (c .rcc)) (withFrozen c true (c .count)) c
+frozenBy v c = if v && not (c .rcc) then withFrozen (withRcc c true) (c .count) else c
 
 -- "A trigger is a written 1"
 unfoldable pub triggeredBy : Bool → Bool → Counter → Counter
-triggeredBy v enabled c = cond (v && takes enabled c) (loaded c) c
+triggeredBy v enabled c = if v && takes enabled c then loaded c else c
 
+-- GCB, RCC and trigger of the byte b
 unfoldable pub commandedBy : Bool → ℕ → Counter → Counter
 commandedBy enabled b c = triggeredBy (bit b 1) enabled (frozenBy (bit b 3) (withGcb c (bit b 2)))
 
 -- "reading that low byte returns it, then RCC = 0"
 unfoldable pub thawed : Counter → Counter
-thawed c = withFrozen c false 0
+thawed c = withFrozen (withRcc c false) 0
 
 -- "the count read at 10H-15H"
 unfoldable pub shown : Counter → ℕ
-shown c = cond (c .rcc) (c .frozen) (c .count)
+shown c = if c .rcc then c .frozen else c .count
 
 -- "Clearing an enable clears CIP and half, and keeps the count."
 unfoldable pub enabledBy : Bool → Counter → Counter
-enabledBy v c = cond v c (at c (c .count) false false)
+enabledBy v c = if v then c else withHalf (withCip c false) false

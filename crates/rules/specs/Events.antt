@@ -3,14 +3,16 @@
 use Prim.Native.Nat.{ℕ, _%_}
 use mathlib.Core.Bool.{Bool, true, false, not, _&&_, _||_, cond}
 use mathlib.Core.List.{List, [], _∷_}
-use lib.Dec.{eqb, ltb}
+use lib.Dec.{eqb, ltb, leb}
+use Rattle.basics.specs.Signs.{if_then_else_, _==_}
 use Rattle.rules.specs.declared.Device.{Device}
-use Rattle.rules.specs.declared.Port.{Port}
 use Rattle.rules.specs.declared.Event.{Event}
 use Rattle.rules.specs.declared.Answer.{Answer}
 use Rattle.rules.specs.declared.Outcome.{Outcome}
-use Rattle.rules.specs.declared.Done.{Done}
-use Rattle.rules.specs.Record.{portAt, withPorts, withIei, resetOf}
+use Rattle.rules.specs.declared.Effect.{Effect}
+use Rattle.rules.specs.With.{withOutside, withPorts, withIei}
+use Rattle.rules.specs.Record.{registerCount, portAt, resetOf}
+use Rattle.rules.specs.Report.{noReport}
 use Rattle.rules.specs.Registers.{kindOf, reset, readOnly, later}
 use Rattle.rules.specs.PortData.{pinsAt}
 use Rattle.rules.specs.Interrupts.{requester, intOf, ieoOf, acknowledged, acknowledge}
@@ -20,25 +22,25 @@ use Rattle.rules.specs.Sound.{soundOf}
 
 -- "X .. W .. R .. P .. T .. K .. E .. Kinds are numbered 0 to 6 in this order."
 abbrev pub isX : Event → Bool
-isX e = eqb (e .kind) 0
+isX e = e .kind == 0
 
 abbrev pub isW : Event → Bool
-isW e = eqb (e .kind) 1
+isW e = e .kind == 1
 
 abbrev pub isR : Event → Bool
-isR e = eqb (e .kind) 2
+isR e = e .kind == 2
 
 abbrev pub isP : Event → Bool
-isP e = eqb (e .kind) 3
+isP e = e .kind == 3
 
 abbrev pub isT : Event → Bool
-isT e = eqb (e .kind) 4
+isT e = e .kind == 4
 
 abbrev pub isK : Event → Bool
-isK e = eqb (e .kind) 5
+isK e = e .kind == 5
 
 abbrev pub isE : Event → Bool
-isE e = eqb (e .kind) 6
+isE e = e .kind == 6
 
 -- ---- the refusals
 -- 1: "kind above 6"
@@ -47,7 +49,7 @@ unknown e = ltb 6 (e .kind)
 
 -- 2: "W or R, address above 47"
 unfoldable pub noRegister : Event → Bool
-noRegister e = (isW e || isR e) && ltb 47 (e .a)
+noRegister e = (isW e || isR e) && leb registerCount (e .a)
 
 -- 5: "a byte, a or b above 255, c above 15, v above 1"
 unfoldable pub tooLarge : Event → Bool
@@ -56,78 +58,67 @@ tooLarge e =
 
 -- "While RESET is 1, other writes are accepted with no effect"
 unfoldable pub held : Device → Event → Bool
-held d e = reset d && isW e && not (eqb (e .a) 0)
+held d e = reset d && isW e && not (e .a == 0x00)
 
 -- "Order: 9, 1, 2, 5, reset hold, 3, 4, 6."
 unfoldable pub codeOf : Device → Event → ℕ
 codeOf d e =
-    cond (not (soundOf d)) 9
-    (cond (unknown e) 1
-    (cond (noRegister e) 2
-    (cond (tooLarge e) 5
-    (cond (held d e) 0
-    (cond (isW e && readOnly (kindOf (e .a))) 3
-    (cond (isW e && later (kindOf (e .a)) (e .b)) 4
-    (cond (isK e && eqb (requester d) 5) 6
-    0)))))))
+    if not (soundOf d) then 9 else
+    if unknown e then 1 else
+    if noRegister e then 2 else
+    if tooLarge e then 5 else
+    if held d e then 0 else
+    if isW e && readOnly (e .a) then 3 else
+    if isW e && later d (e .a) (e .b) then 4 else
+    if isK e && requester d == 5 then 6 else
+    0
 
--- ---- what an accepted event does
-abbrev pub done : Device → ℕ → Done
-done d v = record { device = d; value = v; terminals = 0 ∷ 0 ∷ 0 ∷ [] }
+-- ---- the effect: what an accepted event does to the record, the value that it gives, and what it reports
+abbrev pub effect : Device → ℕ → Effect
+effect d v = record { device = d; value = v; report = noReport }
 
--- "W address byte"
-unfoldable pub writeDone : Device → ℕ → ℕ → Done
-writeDone d a b = cond (reset d && not (eqb a 0)) (done d 0) (done (stepOf false d (writtenOf d (kindOf a) b) .device) 0)
+-- "W address byte": a step; "While RESET is 1, other writes are accepted with no effect"
+unfoldable pub writeEffect : Device → ℕ → ℕ → Effect
+writeEffect d a b = if reset d && not (a == 0x00) then effect d 0 else effect (stepOf false d (writtenOf d (kindOf a) b) .device) 0
 
 -- "R address": under RESET "other registers (1FH too) read 0"
-unfoldable pub readDone : Device → ℕ → Done
-readDone d a = cond (reset d && not (eqb a 0)) (done d 0) (done (afterRead d (kindOf a)) (readOf d (kindOf a)))
+unfoldable pub readEffect : Device → ℕ → Effect
+readEffect d a = if reset d && not (a == 0x00) then effect d 0 else effect (afterRead d a) (readOf d (kindOf a))
 
 -- "P a b c: outside pin levels."
-abbrev pub withOutside : Port → ℕ → Port
-withOutside q n =
-    record {
-      polarity = q .polarity;
-      direction = q .direction;
-      special = q .special;
-      output = q .output;
-      outside = n;
-      catcher = q .catcher;
-    }
-
 unfoldable pub outsideSet : Device → ℕ → ℕ → ℕ → Device
 outsideSet d a b c =
     withPorts d (withOutside (portAt d 0) a ∷ withOutside (portAt d 1) b ∷ withOutside (portAt d 2) c ∷ [])
 
-unfoldable pub pinsDone : Device → ℕ → ℕ → ℕ → Done
-pinsDone d a b c = done (stepOf false d (outsideSet d a b c) .device) 0
+unfoldable pub pinsEffect : Device → ℕ → ℕ → ℕ → Effect
+pinsEffect d a b c = effect (stepOf false d (outsideSet d a b c) .device) 0
 
 -- "T n: n PCLK clocks."
-unfoldable pub clocksDone : Device → ℕ → Done
-clocksDone d n = record { device = ranOf n d .device; value = 0; terminals = ranOf n d .terminals }
+unfoldable pub clocksEffect : Device → ℕ → Effect
+clocksEffect d n = record { device = ranOf n d .device; value = 0; report = ranOf n d .report }
 
 -- "K: acknowledge."
-unfoldable pub acknowledgeDone : Device → Done
-acknowledgeDone d = done (acknowledged d) (acknowledge d)
+unfoldable pub acknowledgeEffect : Device → Effect
+acknowledgeEffect d = effect (acknowledged d) (acknowledge d)
 
 -- "E v: IEI level."
-unfoldable pub ieiDone : Device → ℕ → Done
-ieiDone d v = done (withIei d (eqb v 1)) 0
+unfoldable pub ieiEffect : Device → ℕ → Effect
+ieiEffect d v = effect (withIei d (v == 1)) 0
 
-unfoldable pub doneOf : Device → Event → Done
-doneOf d e =
-    cond (isX e) (done (resetOf d) 0)
-    (cond (isW e) (writeDone d (e .a) (e .b))
-    (cond (isR e) (readDone d (e .a))
-    (cond (isP e) (pinsDone d (e .a) (e .b) (e .c))
-    (cond (isT e) (clocksDone d (e .a))
-    (cond (isK e) (acknowledgeDone d)
-    (ieiDone d (e .a)))))))
+unfoldable pub effectOf : Device → Event → Effect
+effectOf d e =
+    if isX e then effect (resetOf d) 0 else
+    if isW e then writeEffect d (e .a) (e .b) else
+    if isR e then readEffect d (e .a) else
+    if isP e then pinsEffect d (e .a) (e .b) (e .c) else
+    if isT e then clocksEffect d (e .a) else
+    if isK e then acknowledgeEffect d else
+    ieiEffect d (e .a)
 
 -- ---- the answer
 -- "An answer is: code, value (a byte), pin levels A, B, C, INT (1 = asserted), IEO (1 = High), and terminal counts of
 -- counters 1, 2, 3 (0 but for T). Lines are those after the event."
-unfoldable pub answerOf : ℕ → Done → Answer
+unfoldable pub answerOf : ℕ → Effect → Answer
 answerOf code r =
     record {
       code = code;
@@ -137,19 +128,19 @@ answerOf code r =
       c = pinsAt (r .device) 2;
       int = intOf (r .device);
       ieo = ieoOf (r .device);
-      terminals = r .terminals;
+      report = r .report;
     }
 
 -- "With code 9 on an event, value, pins, lines and counts are all 0."
 abbrev pub unsoundAnswer : Answer
-unsoundAnswer = record { code = 9; value = 0; a = 0; b = 0; c = 0; int = false; ieo = false; terminals = 0 ∷ 0 ∷ 0 ∷ [] }
+unsoundAnswer = record { code = 9; value = 0; a = 0; b = 0; c = 0; int = false; ieo = false; report = noReport }
 
--- "A refused event hands its record back as it came."
-unfoldable pub outcomeOf : ℕ → Done → Outcome
+unfoldable pub outcomeOf : ℕ → Effect → Outcome
 outcomeOf code r = record { device = r .device; answer = answerOf code r }
 
+-- an event is a code, an effect, an answer; "A refused event hands its record back as it came."
 unfoldable pub eventOf : Device → Event → Outcome
 eventOf d e =
-    cond (eqb (codeOf d e) 9) (record { device = d; answer = unsoundAnswer })
-    (cond (eqb (codeOf d e) 0) (outcomeOf 0 (doneOf d e))
-    (outcomeOf (codeOf d e) (done d 0)))
+    if codeOf d e == 9 then record { device = d; answer = unsoundAnswer } else
+    if codeOf d e == 0 then outcomeOf 0 (effectOf d e) else
+    outcomeOf (codeOf d e) (effect d 0)

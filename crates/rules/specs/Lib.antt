@@ -1,6 +1,6 @@
-pub mod Byte
-pub mod Buffer
+pub mod With
 pub mod Record
+pub mod Report
 pub mod Registers
 pub mod Counters
 pub mod PortData

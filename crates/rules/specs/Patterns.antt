@@ -4,7 +4,8 @@ use Prim.Native.Nat.{ℕ, _/_, _%_}
 use mathlib.Core.Bool.{Bool, true, false, not, _&&_, _||_, cond}
 use lib.Dec.{eqb}
 use Rattle.rules.specs.declared.Pattern.{Pattern}
-use Rattle.rules.specs.Byte.{bit, differs, rises, every, any}
+use Rattle.basics.specs.Signs.{if_then_else_, _==_}
+use Rattle.basics.specs.Byte.{bit, differs, rises, every, any}
 
 -- "Mask 0, transition 0: bit off"
 unfoldable pub onBit : Bool → Bool → Bool
@@ -13,9 +14,9 @@ onBit mask transition = mask || transition
 -- "0, 1: any edge; 1, 0: level equals polarity; 1, 1: polarity 1 rise, 0 fall."
 unfoldable pub hitBit : Bool → Bool → Bool → Bool → Bool → Bool
 hitBit mask transition polarity before after =
-    cond mask
-    (cond transition (cond polarity (rises before after) (rises after before)) (not (differs after polarity)))
-    (cond transition (differs before after) false)
+    if mask
+    then (if transition then (if polarity then rises before after else rises after before) else not (differs after polarity))
+    else (if transition then differs before after else false)
 
 unfoldable pub onAt : Pattern → ℕ → Bool
 onAt p k = onBit (bit (p .mask) k) (bit (p .transition) k)
@@ -31,36 +32,12 @@ unfoldable pub orMatch : Pattern → ℕ → ℕ → Bool
 orMatch p before after = any (hitAt p before after)
 
 abbrev pub isAnd : Pattern → Bool
-isAnd p = eqb (p .mode / 2 % 4) 1
+isAnd p = p .mode / 2 % 4 == 1
 
 abbrev pub isOr : Pattern → Bool
-isOr p = eqb (p .mode / 2 % 4) 2
+isOr p = p .mode / 2 % 4 == 2
 
 -- "Disabled port or mode 00: no match."
 unfoldable pub matchOf : Bool → Pattern → ℕ → ℕ → Bool
 matchOf enabled p before after =
     enabled && ((isAnd p && andMatch p before after) || (isOr p && orMatch p before after))
-
-abbrev pub withPmf : Pattern → Bool → Pattern
-withPmf p v =
-    record {
-      mode = p .mode;
-      handshake = p .handshake;
-      polarity = p .polarity;
-      transition = p .transition;
-      mask = p .mask;
-      ioe = p .ioe;
-      pmf = v;
-    }
-
-abbrev pub withIoe : Pattern → Bool → Pattern
-withIoe p v =
-    record {
-      mode = p .mode;
-      handshake = p .handshake;
-      polarity = p .polarity;
-      transition = p .transition;
-      mask = p .mask;
-      ioe = v;
-      pmf = p .pmf;
-    }

@@ -6,7 +6,9 @@ use lib.Dec.{eqb, ltb}
 use Rattle.rules.specs.declared.Device.{Device}
 use Rattle.rules.specs.declared.Counter.{Counter}
 use Rattle.rules.specs.declared.Port.{Port}
-use Rattle.rules.specs.Byte.{bit, differs, byteOf}
+use Rattle.basics.specs.Signs.{if_then_else_, _==_}
+use Rattle.basics.specs.Byte.{bit, differs, byteOf}
+use Rattle.rules.specs.With.{withOutput, withCatcher}
 use Rattle.rules.specs.Record.{portAt, counterAt}
 use Rattle.rules.specs.Registers.{portEnabled}
 use Rattle.rules.specs.Counters.{outputEnabled, outputOf}
@@ -15,11 +17,11 @@ use Rattle.rules.specs.Counters.{outputEnabled, outputOf}
 -- Undriven pins show the outside level." ("Direction 1 is input.")
 unfoldable pub pinBit : Bool → Bool → Bool → Bool → Bool → Bool → Bool
 pinBit enabled input drain polarity value outside =
-    cond (enabled && not input && not (drain && differs value polarity)) (differs value polarity) outside
+    if enabled && not input && not (drain && differs value polarity) then differs value polarity else outside
 
 -- "An input's path value is pin XOR polarity; an output's is the value put out before polarity."
 unfoldable pub pathBit : Bool → Bool → Bool → Bool → Bool
-pathBit input pin polarity value = cond input (differs pin polarity) value
+pathBit input pin polarity value = if input then differs pin polarity else value
 
 -- "Special 1 on an input of an enabled port is a 1's catcher"
 unfoldable pub catches : Bool → Bool → Bool → Bool
@@ -31,7 +33,7 @@ caughtBit catching catcher path = catching && (catcher || path)
 
 -- "read in its place"
 unfoldable pub seenBit : Bool → Bool → Bool → Bool
-seenBit catching catcher path = cond catching catcher path
+seenBit catching catcher path = if catching then catcher else path
 
 -- ---- the bytes of one port q, with the value that it puts out
 unfoldable pub pinsOf : Bool → Port → ℕ → ℕ
@@ -57,14 +59,14 @@ levelOf q pins = byteOf (λ k. differs (bit pins k) (bit (q .polarity) k))
 -- ---- the ports of the device: 0 is A, 1 is B, 2 is C
 -- "An enabled output stands, unstored, for the data bit": the byte x with c's output at Dk
 unfoldable pub standing : Counter → ℕ → ℕ → ℕ
-standing c k x = byteOf (λ j. cond (eqb j k && outputEnabled c) (outputOf c) (bit x j))
+standing c k x = byteOf (λ j. if j == k && outputEnabled c then outputOf c else bit x j)
 
 -- "CT1 output .. PB4 ..; CT2 PB0 ..; CT3 PC0": the value that port p puts out
 unfoldable pub valueAt : Device → ℕ → ℕ
 valueAt d p =
-    cond (eqb p 0) (portAt d p .output)
-    (cond (eqb p 1) (standing (counterAt d 0) 4 (standing (counterAt d 1) 0 (portAt d p .output)))
-    (standing (counterAt d 2) 0 (portAt d p .output)))
+    if p == 0 then portAt d p .output else
+    if p == 1 then standing (counterAt d 0) 4 (standing (counterAt d 1) 0 (portAt d p .output)) else
+    standing (counterAt d 2) 0 (portAt d p .output)
 
 unfoldable pub pinsAt : Device → ℕ → ℕ
 pinsAt d p = pinsOf (portEnabled d p) (portAt d p) (valueAt d p)
@@ -79,13 +81,12 @@ seenAt d p = seenOf (portEnabled d p) (portAt d p) (pathAt d p)
 -- "A and B read path values, outputs included; C reads pin XOR polarity."
 unfoldable pub dataAt : Device → ℕ → ℕ
 dataAt d p =
-    cond (eqb p 2) (seenOf (portEnabled d p) (portAt d p) (levelOf (portAt d p) (pinsAt d p)))
-    (seenAt d p)
+    if p == 2 then seenOf (portEnabled d p) (portAt d p) (levelOf (portAt d p) (pinsAt d p)) else seenAt d p
 
 -- ---- a write of data
 -- "Other writes to input bits do nothing."
 unfoldable pub outputBit : Bool → Bool → Bool → Bool → Bool
-outputBit opened input new old = cond (opened && not input) new old
+outputBit opened input new old = if opened && not input then new else old
 
 -- "writing 0 to that data bit clears it"
 unfoldable pub clearedBit : Bool → Bool → Bool → Bool
@@ -94,18 +95,12 @@ clearedBit opened new old = old && not (opened && not new)
 -- the port q with the byte b written to the bits that are opened
 unfoldable pub putOf : Port → (ℕ → Bool) → ℕ → Port
 putOf q opened b =
-    record {
-      polarity = q .polarity;
-      direction = q .direction;
-      special = q .special;
-      output = byteOf (λ k. outputBit (opened k) (bit (q .direction) k) (bit b k) (bit (q .output) k));
-      outside = q .outside;
-      catcher = byteOf (λ k. clearedBit (opened k) (bit b k) (bit (q .catcher) k));
-    }
+    withOutput (withCatcher q (byteOf (λ k. clearedBit (opened k) (bit b k) (bit (q .catcher) k))))
+    (byteOf (λ k. outputBit (opened k) (bit (q .direction) k) (bit b k) (bit (q .output) k)))
 
 -- "Port C data: D7-D4 protect D3-D0, catchers included."
 unfoldable pub unprotected : ℕ → ℕ → ℕ → Bool
-unprotected p b k = cond (eqb p 2) (ltb k 4 && not (bit b (k + 4))) true
+unprotected p b k = if p == 2 then ltb k 4 && not (bit b (k + 4)) else true
 
 unfoldable pub writtenData : Port → ℕ → ℕ → Port
 writtenData q p b = putOf q (unprotected p b) b

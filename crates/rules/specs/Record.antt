@@ -1,15 +1,16 @@
--- The record: its parts by their place, the record with one part replaced, what a reset leaves, and the fresh device.
+-- The record: its parts by their place, what a reset leaves, and the fresh device.
 -- Assumes nothing.
 use Prim.Native.Nat.{ℕ, _+_, _-_, _*_}
 use mathlib.Core.Bool.{Bool, true, false}
 use mathlib.Core.List.{List, [], _∷_}
 use mathlib.Core.Path.{_≡_}
-use lib.ListN.{length, getD, set}
+use lib.ListN.{length, getD}
 use Rattle.rules.specs.declared.Source.{Source}
 use Rattle.rules.specs.declared.Counter.{Counter}
 use Rattle.rules.specs.declared.Port.{Port}
 use Rattle.rules.specs.declared.Pattern.{Pattern}
 use Rattle.rules.specs.declared.Device.{Device}
+use Rattle.rules.specs.With.{device}
 
 -- "the 84 and the 48 are named once, with the device"
 abbrev pub imageLen : ℕ
@@ -31,7 +32,8 @@ bare levels = record { polarity = 0; direction = 0; special = 0; output = 0; out
 abbrev pub blank : Pattern
 blank = record { mode = 0; handshake = 0; polarity = 0; transition = 0; mask = 0; ioe = false; pmf = false }
 
--- ---- the parts by their place: ports A, B, C; patterns A, B; counters 1, 2, 3; sources CT3, A, CT2, B, CT1
+-- ---- the parts by their place: vectors A, B, CT; ports A, B, C; patterns A, B; counters 1, 2, 3; sources CT3, A, CT2, B, CT1.
+-- Past its end an array reads as an empty part.
 abbrev pub vectorAt : Device → ℕ → ℕ
 vectorAt d v = getD (d .vectors) v 0
 
@@ -54,55 +56,11 @@ ofPort p = 1 + 2 * p
 abbrev pub ofCounter : ℕ → ℕ
 ofCounter i = 4 - 2 * i
 
--- ---- the record of its parts, and the record with one part replaced
-abbrev pub device : ℕ → ℕ → List ℕ → List Port → List Pattern → List Counter → List Source → Bool → Bool → Device
-device m f vs qs ps cs ss i h =
-    record {
-      master = m;
-      config = f;
-      vectors = vs;
-      ports = qs;
-      patterns = ps;
-      counters = cs;
-      sources = ss;
-      iei = i;
-      phase = h;
-    }
-
-abbrev pub withMaster : Device → ℕ → Device
-withMaster d b = device b (d .config) (d .vectors) (d .ports) (d .patterns) (d .counters) (d .sources) (d .iei) (d .phase)
-
-abbrev pub withConfig : Device → ℕ → List Counter → Device
-withConfig d b cs = device (d .master) b (d .vectors) (d .ports) (d .patterns) cs (d .sources) (d .iei) (d .phase)
-
-abbrev pub withVector : Device → ℕ → ℕ → Device
-withVector d v b = device (d .master) (d .config) (set (d .vectors) v b) (d .ports) (d .patterns) (d .counters) (d .sources) (d .iei) (d .phase)
-
-abbrev pub withPorts : Device → List Port → Device
-withPorts d qs = device (d .master) (d .config) (d .vectors) qs (d .patterns) (d .counters) (d .sources) (d .iei) (d .phase)
-
-abbrev pub withPort : Device → ℕ → Port → Device
-withPort d p q = withPorts d (set (d .ports) p q)
-
-abbrev pub withPattern : Device → ℕ → Pattern → Device
-withPattern d p q = device (d .master) (d .config) (d .vectors) (d .ports) (set (d .patterns) p q) (d .counters) (d .sources) (d .iei) (d .phase)
-
-abbrev pub withCounter : Device → ℕ → Counter → Device
-withCounter d i c = withConfig d (d .config) (set (d .counters) i c)
-
-abbrev pub withSource : Device → ℕ → Source → Device
-withSource d k s = device (d .master) (d .config) (d .vectors) (d .ports) (d .patterns) (d .counters) (set (d .sources) k s) (d .iei) (d .phase)
-
-abbrev pub withIei : Device → Bool → Device
-withIei d v = device (d .master) (d .config) (d .vectors) (d .ports) (d .patterns) (d .counters) (d .sources) v (d .phase)
-
-abbrev pub withPhase : Device → Bool → Device
-withPhase d v = device (d .master) (d .config) (d .vectors) (d .ports) (d .patterns) (d .counters) (d .sources) (d .iei) v
-
--- "Reset (X, or D0 written 1 to 00): register 00 is 01H, all else 0, clock phase 0; outside pins and IEI stay."
+-- "Reset (X, or D0 written 1 to 00): register 00 is 01H, all else 0, clock phase 0; outside pins and IEI stay.":
+-- with these outside levels and this IEI
 abbrev pub resetTo : ℕ → ℕ → ℕ → Bool → Device
 resetTo a b c v =
-    device 1 0 (0 ∷ 0 ∷ 0 ∷ []) (bare a ∷ bare b ∷ bare c ∷ []) (blank ∷ blank ∷ []) (idle ∷ idle ∷ idle ∷ [])
+    device 0x01 0x00 (0 ∷ 0 ∷ 0 ∷ []) (bare a ∷ bare b ∷ bare c ∷ []) (blank ∷ blank ∷ []) (idle ∷ idle ∷ idle ∷ [])
     (quiet ∷ quiet ∷ quiet ∷ quiet ∷ quiet ∷ []) v false
 
 unfoldable pub resetOf : Device → Device

@@ -8,7 +8,8 @@ use Rattle.rules.specs.declared.Source.{Source}
 use Rattle.rules.specs.declared.Counter.{Counter}
 use Rattle.rules.specs.declared.Port.{Port}
 use Rattle.rules.specs.declared.Pattern.{Pattern}
-use Rattle.rules.specs.Byte.{bit, every, any}
+use Rattle.basics.specs.Signs.{_==_}
+use Rattle.basics.specs.Byte.{bit, every, any}
 use Rattle.rules.specs.Record.{vectorAt, portAt, patternAt, counterAt, sourceAt, resetOf}
 use Rattle.rules.specs.Registers.{reset, portEnabled, counterEnabled, laterConfig, laterPortMode, laterCounterMode}
 use Rattle.rules.specs.PortData.{catchesAt, pathAt}
@@ -51,7 +52,7 @@ halfOnly c = only (c .half) (c .cip)
 
 -- "10-15 all 0 for a counter without RCC"
 unfoldable pub frozenOnly : Counter → Bool
-frozenOnly c = only (not (c .rcc)) (eqb (c .frozen) 0)
+frozenOnly c = only (not (c .rcc)) (c .frozen == 0)
 
 unfoldable pub soundCounter : Bool → Counter → Bool
 soundCounter enabled c = cipOnly enabled c && halfOnly c && frozenOnly c
@@ -78,18 +79,18 @@ sameSource s t =
 
 unfoldable pub sameCounter : Counter → Counter → Bool
 sameCounter c e =
-    eqb (c .mode) (e .mode) && eqb (c .constant) (e .constant) && eqb (c .count) (e .count) && eqb (c .frozen) (e .frozen)
+    c .mode == e .mode && c .constant == e .constant && c .count == e .count && c .frozen == e .frozen
     && Bool·beq (c .rcc) (e .rcc) && Bool·beq (c .gcb) (e .gcb) && Bool·beq (c .cip) (e .cip) && Bool·beq (c .half) (e .half)
 
 unfoldable pub samePort : Port → Port → Bool
 samePort q r =
-    eqb (q .polarity) (r .polarity) && eqb (q .direction) (r .direction) && eqb (q .special) (r .special)
-    && eqb (q .output) (r .output) && eqb (q .outside) (r .outside) && eqb (q .catcher) (r .catcher)
+    q .polarity == r .polarity && q .direction == r .direction && q .special == r .special
+    && q .output == r .output && q .outside == r .outside && q .catcher == r .catcher
 
 unfoldable pub samePattern : Pattern → Pattern → Bool
 samePattern q r =
-    eqb (q .mode) (r .mode) && eqb (q .handshake) (r .handshake) && eqb (q .polarity) (r .polarity)
-    && eqb (q .transition) (r .transition) && eqb (q .mask) (r .mask) && Bool·beq (q .ioe) (r .ioe) && Bool·beq (q .pmf) (r .pmf)
+    q .mode == r .mode && q .handshake == r .handshake && q .polarity == r .polarity
+    && q .transition == r .transition && q .mask == r .mask && Bool·beq (q .ioe) (r .ioe) && Bool·beq (q .pmf) (r .pmf)
 
 unfoldable pub sameSources : Device → Device → Bool
 sameSources d e =
@@ -109,11 +110,11 @@ samePatterns d e = samePattern (patternAt d 0) (patternAt e 0) && samePattern (p
 
 unfoldable pub sameVectors : Device → Device → Bool
 sameVectors d e =
-    eqb (vectorAt d 0) (vectorAt e 0) && eqb (vectorAt d 1) (vectorAt e 1) && eqb (vectorAt d 2) (vectorAt e 2)
+    vectorAt d 0 == vectorAt e 0 && vectorAt d 1 == vectorAt e 1 && vectorAt d 2 == vectorAt e 2
 
 unfoldable pub sameOf : Device → Device → Bool
 sameOf d e =
-    eqb (d .master) (e .master) && eqb (d .config) (e .config) && sameVectors d e && samePorts d e && samePatterns d e
+    d .master == e .master && d .config == e .config && sameVectors d e && samePorts d e && samePatterns d e
     && sameCounters d e && sameSources d e && Bool·beq (d .iei) (e .iei) && Bool·beq (d .phase) (e .phase)
 
 -- "under RESET all as reset leaves it"

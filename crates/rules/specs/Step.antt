@@ -1,6 +1,6 @@
 -- Paper 01, "Order inside one step", and the clock.
 -- Assumes nothing.
-use Prim.Native.Nat.{ℕ, zero, suc, _+_, _/_, _%_}
+use Prim.Native.Nat.{ℕ, _+_, _/_, _%_}
 use mathlib.Core.Bool.{Bool, true, false, not, _&&_, _||_, cond}
 use mathlib.Core.List.{List, [], _∷_}
 use lib.Dec.{eqb}
@@ -12,22 +12,26 @@ use Rattle.rules.specs.declared.Counted.{Counted}
 use Rattle.rules.specs.declared.Turned.{Turned}
 use Rattle.rules.specs.declared.Stepped.{Stepped}
 use Rattle.rules.specs.declared.Ran.{Ran}
-use Rattle.rules.specs.Byte.{num}
-use Rattle.rules.specs.Record.{portAt, patternAt, counterAt, sourceAt, ofPort, ofCounter, withPorts, withPattern, withCounter, withSource, withPhase}
+use Rattle.basics.specs.Signs.{if_then_else_, _==_}
+unfoldable pub use Rattle.basics.specs.Iterate.{iterate}
+use Rattle.rules.specs.declared.Report.{Report}
+use Rattle.rules.specs.With.{withCatcher, withPmf, withPorts, withPattern, withCounter, withSource, withPhase}
+use Rattle.rules.specs.Record.{portAt, patternAt, counterAt, sourceAt, ofPort, ofCounter}
+use Rattle.rules.specs.Report.{noReport, reportsAdded, stepReport}
 use Rattle.rules.specs.Registers.{portEnabled, counterEnabled, lc, reset}
 use Rattle.rules.specs.PortData.{caughtOf, pathAt, seenAt}
 use Rattle.rules.specs.Counters.{outputOf, unlinked, linkOf, reachOf, turnOf}
-use Rattle.rules.specs.Patterns.{matchOf, withPmf}
+use Rattle.rules.specs.Patterns.{matchOf}
 use Rattle.rules.specs.Interrupts.{raisedOf}
 
 -- "Lines: CT1 output, count, trigger, gate PB4-PB7; CT2 PB0-PB3; CT3 PC0-PC3. Inputs are path values without catchers":
 -- the four lines of counter i, as D0 to D3
 unfoldable pub linesAt : Device → ℕ → ℕ
-linesAt d i = cond (eqb i 0) (pathAt d 1 / 16) (cond (eqb i 1) (pathAt d 1 % 16) (pathAt d 2 % 16))
+linesAt d i = if i == 0 then pathAt d 1 / 16 else if i == 1 then pathAt d 1 % 16 else pathAt d 2 % 16
 
 -- a source to which an event comes, or does not
 unfoldable pub eventAt : Device → ℕ → Bool → Bool → Device
-eventAt d k hides happens = cond happens (withSource d k (raisedOf hides (sourceAt d k))) d
+eventAt d k hides happens = if happens then withSource d k (raisedOf hides (sourceAt d k)) else d
 
 -- what a counter's turn leaves: the counter, and its source after a terminal
 unfoldable pub turned : Device → ℕ → Counted → Turned
@@ -42,18 +46,7 @@ unfoldable pub counterTurn : Link → Bool → ℕ → ℕ → ℕ → Device �
 counterTurn link timer were are i d =
     turned d i (turnOf (counterEnabled d i) (reachOf (counterAt d i) link timer were are) (counterAt d i))
 
--- (e): the catchers of a port
-abbrev pub withCatcher : Port → ℕ → Port
-withCatcher q n =
-    record {
-      polarity = q .polarity;
-      direction = q .direction;
-      special = q .special;
-      output = q .output;
-      outside = q .outside;
-      catcher = n;
-    }
-
+-- (e): the catchers of port p, and of all
 unfoldable pub caughtAt : Device → ℕ → Port
 caughtAt d p = withCatcher (portAt d p) (caughtOf (portEnabled d p) (portAt d p) (pathAt d p))
 
@@ -87,29 +80,17 @@ stepOf timer d0 d1 =
     }
 
 -- ---- the clock
--- terminals added to the counts of them
-abbrev pub added : List ℕ → List Bool → ℕ → ℕ
-added ns ts i = getD ns i 0 + num (getD ts i false)
-
-unfoldable pub counted : List ℕ → Stepped → Ran
-counted ns s =
-    record {
-      device = s .device;
-      terminals = added ns (s .terminals) 0 ∷ added ns (s .terminals) 1 ∷ added ns (s .terminals) 2 ∷ [];
-    }
+-- a step's report added to the report so far
+unfoldable pub reported : Report → Stepped → Ran
+reported r s = record { device = s .device; report = reportsAdded r (stepReport s) }
 
 -- "PCLK flips a phase bit; each second clock, as phase returns to 0, is a timer clock." Under RESET "T changes nothing".
 unfoldable pub clockOf : Ran → Ran
 clockOf s =
-    cond (reset (s .device)) s
-    (cond (s .device .phase) (counted (s .terminals) (stepOf true (s .device) (withPhase (s .device) false)))
-    (record { device = withPhase (s .device) true; terminals = s .terminals }))
-
--- f, n times
-unfoldable pub iterate : {A : Type 0} → ℕ → (A → A) → A → A
-iterate zero f a = a
-iterate (suc n) f a = f (iterate n f a)
+    if reset (s .device) then s else
+    if s .device .phase then reported (s .report) (stepOf true (s .device) (withPhase (s .device) false)) else
+    record { device = withPhase (s .device) true; report = s .report }
 
 -- "T n: n PCLK clocks."
 unfoldable pub ranOf : ℕ → Device → Ran
-ranOf n d = iterate n clockOf (record { device = d; terminals = 0 ∷ 0 ∷ 0 ∷ [] })
+ranOf n d = iterate n clockOf (record { device = d; report = noReport })

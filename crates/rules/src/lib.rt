@@ -1,7 +1,9 @@
 // The record of a Z8036, its parts, and what goes in and comes out of an event, in the names of paper 01.
 // The rules over them are in specs/, in the paper's words.
 ghost use mathlib.Core.Path.{_≡_};
-ghost use Rattle.rules.specs.Record.{freshOf, imageLen, registerCount};
+ghost use Prim.Native.Nat.{_%_};
+ghost use Rattle.rules.specs.Record.{freshOf, imageLen, registerCount, ofPort, ofCounter};
+ghost use Rattle.rules.specs.Registers.{reset};
 
 // One of the five interrupt sources: what its command register shows, and the hidden error, which none does.
 pub struct Source {
@@ -10,6 +12,33 @@ pub struct Source {
     pub ip: bool,
     pub err: bool,
     pub hidden: bool,
+}
+
+impl Source {
+    // The places of the five, in their order of priority.
+    pub const CT3: usize = 0;
+
+    pub const A: usize = 1;
+
+    pub const CT2: usize = 2;
+
+    pub const B: usize = 3;
+
+    pub const CT1: usize = 4;
+
+    // The place of the source of port p, of A and B alone: past them, of A, B, A again.
+    pub fn of_port(p: usize) -> usize
+        ensures { λ r. ⌜ r ≡ ofPort (p % 2) ⌝ }
+    {
+        Source::A + 2 * (p % 2)
+    }
+
+    // The place of the source of counter i; past the third, of the first again.
+    pub fn of_counter(i: usize) -> usize
+        ensures { λ r. ⌜ r ≡ ofCounter (i % 3) ⌝ }
+    {
+        Source::CT1 - 2 * (i % 3)
+    }
 }
 
 // One of the three counter/timers. `frozen` is what 10H-15H read while RCC is 1.
@@ -127,6 +156,13 @@ impl Device {
     {
         Device::REGISTERS
     }
+
+    // Whether the RESET bit holds the device.
+    pub fn reset(self) -> bool
+        ensures { λ r. ⌜ r ≡ reset self ⌝ }
+    {
+        self.master % 2 == 1
+    }
 }
 
 // A kind and three numbers; a kind ignores those that it does not use.
@@ -137,7 +173,29 @@ pub struct Event {
     pub c: u32,
 }
 
-// The answer to an event. `terminals` are the terminal counts of counters 1, 2, 3.
+// The kinds by their letters.
+impl Event {
+    pub const X: u32 = 0;
+
+    pub const W: u32 = 1;
+
+    pub const R: u32 = 2;
+
+    pub const P: u32 = 3;
+
+    pub const T: u32 = 4;
+
+    pub const K: u32 = 5;
+
+    pub const E: u32 = 6;
+}
+
+// What an answer reports of its clocks: the terminal counts of counters 1, 2, 3.
+pub struct Report {
+    pub terminals: [u32; 3],
+}
+
+// The answer to an event.
 pub struct Answer {
     pub code: u8,
     pub value: u8,
@@ -146,7 +204,7 @@ pub struct Answer {
     pub c: u8,
     pub int: bool,
     pub ieo: bool,
-    pub terminals: [u32; 3],
+    pub report: Report,
 }
 
 // What an event hands back.
@@ -212,15 +270,15 @@ pub struct Stepped {
     pub terminals: [bool; 3],
 }
 
-// A device after some clocks, and the terminal counts of counters 1, 2, 3 in them.
+// A device after some clocks, and their report.
 pub struct Ran {
     pub device: Device,
-    pub terminals: [u32; 3],
+    pub report: Report,
 }
 
-// What an accepted event does: the record, the value and the terminal counts.
-pub struct Done {
+// What an accepted event does: the record, the value and the report.
+pub struct Effect {
     pub device: Device,
     pub value: u8,
-    pub terminals: [u32; 3],
+    pub report: Report,
 }

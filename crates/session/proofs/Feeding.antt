@@ -1,43 +1,46 @@
 -- Lines taken from a piece one after the other, their answers laid one after the other.
 -- Assumes nothing.
-use Prim.Native.Nat.{ℕ, zero, suc, _+_, _-_, _≤_, _<_}
-use mathlib.Core.Bool.{Bool, true, false, _&&_}
+use Prim.Native.Nat.{ℕ, suc, _+_, _-_, _≤_, _<_}
+use mathlib.Core.Bool.{Bool, true, false, _&&_, true≢false}
 use mathlib.Core.List.{List, [], _∷_, _++_}
-use mathlib.Core.Path.{_≡_, refl, sym, ap, ap₂, subst, _∙_}
+use mathlib.Core.Path.{_≡_, refl, sym, ap, ap₂, _∙_}
 use native.Mathlib.Nat.{add-zero, zero-add, suc-add, add-assoc}
 use native.Mathlib.Omega.{arith}
 use borrow.Author.Tests.{lt-ltb, le-ltb, le-leb, ltb-false, leb-false}
-use lib.Dec.{T, eqb, ltb, leb}
+use lib.Dec.{ltb, leb}
 use lib.ListN.{length, take, drop, length-append, length-drop}
 use lib.Seq.{paste, take-at, take-length, take-add, drop-drop, drop-append-add, length-take-le}
-use Rattle.rules.specs.Buffer.{fits, laidOf}
+use Rattle.basics.specs.Signs.{_==_}
+use Rattle.texts.specs.Answers.{lineFeed}
+use Rattle.basics.specs.Buffer.{fits, laidOf}
 use Rattle.lines.specs.Pieces.{lineLen, saidIn, keptAfter}
-use Rattle.session.specs.Sessions.{answersTo, deviceAfter, afterOf, answersIn, readIn, readOf, fedBy, answered, lineIn, lineFed}
+use Rattle.texts.specs.Kept.{textRoom}
+use Rattle.session.specs.Sessions.{answerBytes, deviceAfter, afterOf, answersIn, readIn, bytesRead, fedBy, answered, lineIn, lineFed}
 use Rattle.session.specs.declared.Fed.{Fed}
 use Rattle.session.specs.declared.Session.{Session}
 use Rattle.session.proofs.Laws.{after-append, answers-append}
 use Rattle.session.proofs.Telling.{line-short, line-some, line-length, answers-short}
 
 -- ---- how many bytes are read
-no-feed : (s : Session) (b : ℕ) → eqb b 10 ≡ false → answersIn s (b ∷ []) ≡ []
-unfolding answersIn answersTo saidIn
+no-feed : (s : Session) (b : ℕ) → b == lineFeed ≡ false → answersIn s (b ∷ []) ≡ []
+unfolding answersIn answerBytes saidIn
 no-feed s b e = simp e
 
 -- a line is read whole where its answer finds room
-pub read-line : (room : ℕ) (s : Session) (n : ℕ) (m : List ℕ) → n + 80 ≤ room
-    → readIn room s n m
+abbrev Line-read : ℕ → Session → ℕ → List ℕ → Type 0
+Line-read room s n m =
+    readIn room s n m
     ≡ lineLen m + readIn room (afterOf s (take (lineLen m) m)) (n + length (answersIn s (take (lineLen m) m))) (drop (lineLen m) m)
+
+pub read-line : (room : ℕ) (s : Session) (n : ℕ) (m : List ℕ) → n + textRoom ≤ room → Line-read room s n m
 unfolding readIn lineLen
 read-line room s n [] h = refl
-read-line room s n (b ∷ m) h = by-feed (eqb b 10) refl (λ g. read-line room (afterOf s (b ∷ [])) (n + length (answersIn s (b ∷ []))) m g)
+read-line room s n (b ∷ m) h = by-feed (b == lineFeed) refl (λ g. read-line room (afterOf s (b ∷ [])) (n + length (answersIn s (b ∷ []))) m g)
   where
-    by-feed : (f : Bool) → eqb b 10 ≡ f
-        → (n + length (answersIn s (b ∷ [])) + 80 ≤ room
-        → readIn room (afterOf s (b ∷ [])) (n + length (answersIn s (b ∷ []))) m
-        ≡ lineLen m + readIn room (afterOf (afterOf s (b ∷ [])) (take (lineLen m) m)) (n + length (answersIn s (b ∷ [])) + length (answersIn (afterOf s (b ∷ [])) (take (lineLen m) m))) (drop (lineLen m) m))
-        → readIn room s n (b ∷ m)
-        ≡ lineLen (b ∷ m) + readIn room (afterOf s (take (lineLen (b ∷ m)) (b ∷ m))) (n + length (answersIn s (take (lineLen (b ∷ m)) (b ∷ m)))) (drop (lineLen (b ∷ m)) (b ∷ m))
-    by-feed true e r = simp (e, le-ltb room (n + 80) h) (omega arith)
+    by-feed : (f : Bool) → b == lineFeed ≡ f
+        → (n + length (answersIn s (b ∷ [])) + textRoom ≤ room → Line-read room (afterOf s (b ∷ [])) (n + length (answersIn s (b ∷ []))) m)
+        → Line-read room s n (b ∷ m)
+    by-feed true e r = simp (e, le-ltb room (n + textRoom) h) (omega arith)
     by-feed false e r =
         let s′ = afterOf s (b ∷ []) in
         let x = take (lineLen m) m in
@@ -47,7 +50,7 @@ read-line room s n (b ∷ m) h = by-feed (eqb b 10) refl (λ g. read-line room (
         let q =
         ap₂ (λ (u : Session) (j : ℕ). readIn room u j (drop (lineLen m) m)) (sym (after-append s (b ∷ []) x))
         (add-assoc n (length (answersIn s (b ∷ []))) (length (answersIn s′ x)) ∙ ap (λ (j : ℕ). n + j) (sym w)) in
-        simp (e, le-ltb room (n + 80) h)
+        simp (e, le-ltb room (n + textRoom) h)
         (ap suc (r (omega arith) ∙ ap (λ (j : ℕ). lineLen m + j) q)
         ∙ sym (suc-add (lineLen m) (readIn room (afterOf s (b ∷ x)) (n + length (answersIn s (b ∷ x))) (drop (lineLen m) m))))
 
@@ -57,10 +60,10 @@ unfolding readIn
 none-left room s n [] h = refl
 none-left room s n (b ∷ m) h = absurd (omega arith)
 
-no-room : (room : ℕ) (s : Session) (n : ℕ) (m : List ℕ) → room < n + 80 → readIn room s n m ≡ 0
+no-room : (room : ℕ) (s : Session) (n : ℕ) (m : List ℕ) → room < n + textRoom → readIn room s n m ≡ 0
 unfolding readIn
 no-room room s n [] h = refl
-no-room room s n (b ∷ m) h = simp (lt-ltb room (n + 80) h)
+no-room room s n (b ∷ m) h = simp (lt-ltb room (n + textRoom) h)
 
 paste-more : (w a out : List ℕ) → paste (answered w out) (length w) a (length a) ≡ answered (w ++ a) out
 unfolding answered
@@ -97,14 +100,6 @@ fed-more s at p q =
     ∙ ap (λ (n : ℕ). fed (afterOf s (p ++ q)) (at + length (p ++ q)) n)
     (sym (ap length (answers-append s p q) ∙ length-append (answersIn s p) (answersIn (afterOf s p) q)))
 
-true-false : true ≡ false → ⊥
-true-false e = subst T e tt
-
--- both of two tests
-pub both : (a b : Bool) → (a && b) ≡ true → (a ≡ true) × (b ≡ true)
-both true b e = (refl, e)
-both false b e = absurd (true-false (sym e))
-
 -- a line takes the place on
 pub fed-on : (f : Fed) (piece : List ℕ) → f .next < length piece → f .next < lineFed f (lineIn piece (f .next)) .next
 unfolding lineFed lineIn
@@ -127,7 +122,7 @@ module _ (s : Session) (piece : List ℕ) (at : ℕ) (out₀ : List ℕ) where
         ≡ k + readIn (length out₀) (afterOf s (take k (drop at piece))) (length (answersIn s (take k (drop at piece)))) (drop k (drop at piece))
 
   pub none-yet : SoFar (record { session = s; next = at; len = 0 }) out₀
-  unfolding fedBy afterOf answersIn answersTo deviceAfter saidIn keptAfter answered
+  unfolding fedBy afterOf answersIn answerBytes deviceAfter saidIn keptAfter answered
   none-yet =
       record {
         k = 0;
@@ -177,20 +172,26 @@ module _ (s : Session) (piece : List ℕ) (at : ℕ) (out₀ : List ℕ) where
     more-length : length (answersIn s (take (so .k + lineLen (rest (so .k))) (drop at piece))) ≡ length answers + length next-answers
     more-length = ap length more-answers ∙ length-append answers next-answers
 
-    read-more : length answers + 80 ≤ length out₀
-        → readIn (length out₀) s 0 (drop at piece)
-        ≡ so .k + lineLen (rest (so .k))
-        + readIn (length out₀) (afterOf s (take (so .k + lineLen (rest (so .k))) (drop at piece))) (length (answersIn s (take (so .k + lineLen (rest (so .k))) (drop at piece)))) (drop (so .k + lineLen (rest (so .k))) (drop at piece))
+    -- byte k and a line more
+    abbrev on : ℕ
+    on = so .k + lineLen (rest (so .k))
+
+    abbrev all : List ℕ
+    all = drop at piece
+
+    read-more : length answers + textRoom ≤ length out₀
+        → readIn (length out₀) s 0 all
+        ≡ on + readIn (length out₀) (afterOf s (take on all)) (length (answersIn s (take on all))) (drop on all)
     read-more h =
         let j = lineLen (rest (so .k)) in
-        so .read ∙ ap (λ (n : ℕ). so .k + n) (read-line (length out₀) (afterOf s bytes) (length answers) (rest (so .k)) h)
-        ∙ sym (add-assoc (so .k) j (readIn (length out₀) (afterOf (afterOf s bytes) (line (so .k))) (length answers + length next-answers) (drop j (rest (so .k)))))
-        ∙ ap₂ (λ (u : Session) (n : ℕ). so .k + j + readIn (length out₀) u n (drop j (rest (so .k))))
+        let room = length out₀ in
+        so .read ∙ ap (λ (n : ℕ). so .k + n) (read-line room (afterOf s bytes) (length answers) (rest (so .k)) h)
+        ∙ sym (add-assoc (so .k) j (readIn room (afterOf (afterOf s bytes) (line (so .k))) (length answers + length next-answers) (drop j (rest (so .k)))))
+        ∙ ap₂ (λ (u : Session) (n : ℕ). on + readIn room u n (drop j (rest (so .k))))
         (sym (ap (afterOf s) more-bytes ∙ after-append s bytes (line (so .k)))) (sym more-length)
-        ∙ ap (λ (l : List ℕ). so .k + j + readIn (length out₀) (afterOf s (take (so .k + j) (drop at piece))) (length (answersIn s (take (so .k + j) (drop at piece)))) l)
-        (drop-drop j (so .k) (drop at piece))
+        ∙ ap (λ (l : List ℕ). on + readIn room (afterOf s (take on all)) (length (answersIn s (take on all))) l) (drop-drop j (so .k) all)
 
-    pub one-more : (f′ : Fed) (out′ : List ℕ) → f .len + 80 ≤ length out → f′ ≡ lineFed f (lineIn piece (f .next))
+    pub one-more : (f′ : Fed) (out′ : List ℕ) → f .len + textRoom ≤ length out → f′ ≡ lineFed f (lineIn piece (f .next))
         → out′ ≡ laidOf out (f .len) (answersIn (f .session) (lineIn piece (f .next))) → SoFar f′ out′
     unfolding fedBy
     one-more f′ out′ h e l =
@@ -228,27 +229,27 @@ module _ (s : Session) (piece : List ℕ) (at : ℕ) (out₀ : List ℕ) where
         let c = length-drop at piece in
         omega arith
 
-    too-full : leb (f .len + 80) (length out) ≡ false → length out₀ < length answers + 80
+    too-full : leb (f .len + textRoom) (length out) ≡ false → length out₀ < length answers + textRoom
     too-full q =
-        let h = leb-false (f .len + 80) (length out) q in
+        let h = leb-false (f .len + textRoom) (length out) q in
         let n = len-is in
         let o = out-length in
         omega arith
 
     -- at the end of the piece, or of the room
-    none-read : (ltb (f .next) (length piece) && leb (f .len + 80) (length out)) ≡ false
+    none-read : (ltb (f .next) (length piece) && leb (f .len + textRoom) (length out)) ≡ false
         → readIn (length out₀) (afterOf s bytes) (length answers) (rest (so .k)) ≡ 0
     none-read e = by-end _ refl _ refl e
       where
-        by-end : (a : Bool) → ltb (f .next) (length piece) ≡ a → (b : Bool) → leb (f .len + 80) (length out) ≡ b → (a && b) ≡ false
+        by-end : (a : Bool) → ltb (f .next) (length piece) ≡ a → (b : Bool) → leb (f .len + textRoom) (length out) ≡ b → (a && b) ≡ false
             → readIn (length out₀) (afterOf s bytes) (length answers) (rest (so .k)) ≡ 0
         by-end false p b q e = none-left (length out₀) (afterOf s bytes) (length answers) (rest (so .k)) (all-read p)
         by-end true p false q e = no-room (length out₀) (afterOf s bytes) (length answers) (rest (so .k)) (too-full q)
-        by-end true p true q e = absurd (true-false e)
+        by-end true p true q e = absurd (true≢false e)
 
-    pub at-end : (ltb (f .next) (length piece) && leb (f .len + 80) (length out)) ≡ false
-        → (f ≡ fedBy s at (readOf s piece at out₀)) × (out ≡ answered (answersIn s (readOf s piece at out₀)) out₀)
-    unfolding readOf
+    pub at-end : (ltb (f .next) (length piece) && leb (f .len + textRoom) (length out)) ≡ false
+        → (f ≡ fedBy s at (bytesRead s piece at out₀)) × (out ≡ answered (answersIn s (bytesRead s piece at out₀)) out₀)
+    unfolding bytesRead
     at-end e =
         let z : so .k ≡ readIn (length out₀) s 0 (drop at piece) =
         sym (so .read ∙ ap (λ (n : ℕ). so .k + n) (none-read e) ∙ add-zero (so .k)) in (
@@ -259,15 +260,15 @@ module _ (s : Session) (piece : List ℕ) (at : ℕ) (out₀ : List ℕ) where
     pub len-within : f .len ≤ length out
     len-within = let n = len-is in let o = out-length in let r = so .room in omega arith
 
-reads-some : (room : ℕ) (s : Session) (m : List ℕ) → 80 ≤ room → 0 < length m → 0 < length (take (readIn room s 0 m) m)
+reads-some : (room : ℕ) (s : Session) (m : List ℕ) → textRoom ≤ room → 0 < length m → 0 < length (take (readIn room s 0 m) m)
 unfolding readIn
 reads-some room s [] h l = absurd (omega arith)
-reads-some room s (b ∷ m) h l = simp (le-ltb room 80 h) (omega arith)
+reads-some room s (b ∷ m) h l = simp (le-ltb room textRoom h) (omega arith)
 
 -- a buffer with room for an answer takes the place on
-pub feeds-on : (s : Session) (piece : List ℕ) (at : ℕ) (out : List ℕ) → 80 ≤ length out → at < length piece
-    → at < fedBy s at (readOf s piece at out) .next
-unfolding fedBy readOf
+pub feeds-on : (s : Session) (piece : List ℕ) (at : ℕ) (out : List ℕ) → textRoom ≤ length out → at < length piece
+    → at < fedBy s at (bytesRead s piece at out) .next
+unfolding fedBy bytesRead
 feeds-on s piece at out h g =
     let d = length-drop at piece in
     let n = reads-some (length out) s (drop at piece) h (omega arith) in

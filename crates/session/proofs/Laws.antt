@@ -9,10 +9,10 @@ use Rattle.rules.specs.declared.Device.{Device}
 use Rattle.lines.proofs.Whole.{said-append, kept-append, said-lines}
 use Rattle.texts.specs.Answers.{answerText}
 use Rattle.lines.specs.Lines.{eventIn}
-use Rattle.lines.specs.Pieces.{saidIn, keptAfter, saidAll, joined}
+use Rattle.lines.specs.Pieces.{saidIn, keptAfter, saidAll, inputOf}
 use Rattle.lines.specs.declared.Line.{Line}
 use Rattle.texts.specs.declared.Text.{Text}
-use Rattle.session.specs.Sessions.{answersTo, deviceAfter, outputOf, startOf, afterOf, answersIn, answersLast, writtenBy}
+use Rattle.session.specs.Sessions.{answerBytes, deviceAfter, printedFor, startOf, afterOf, answersIn, answersLast, writtenBy}
 use Rattle.session.specs.declared.Session.{Session}
 
 pub device-append : (d : Device) (ls ms : List Line) → deviceAfter d (ls ++ ms) ≡ deviceAfter (deviceAfter d ls) ms
@@ -20,13 +20,13 @@ unfolding deviceAfter
 device-append d [] ms = refl
 device-append d (l ∷ ls) ms = device-append (eventOf d (eventIn l) .device) ls ms
 
-pub answers-to-append : (d : Device) (ls ms : List Line) → answersTo d (ls ++ ms) ≡ answersTo d ls ++ answersTo (deviceAfter d ls) ms
-unfolding answersTo deviceAfter
+pub answers-to-append : (d : Device) (ls ms : List Line) → answerBytes d (ls ++ ms) ≡ answerBytes d ls ++ answerBytes (deviceAfter d ls) ms
+unfolding answerBytes deviceAfter
 answers-to-append d [] ms = refl
 answers-to-append d (l ∷ ls) ms =
     let o = eventOf d (eventIn l) in
     ap (λ (w : List ℕ). answerText (o .answer) ++ w) (answers-to-append (o .device) ls ms)
-    ∙ sym (append-assoc (answerText (o .answer)) (answersTo (o .device) ls) (answersTo (deviceAfter (o .device) ls) ms))
+    ∙ sym (append-assoc (answerText (o .answer)) (answerBytes (o .device) ls) (answerBytes (deviceAfter (o .device) ls) ms))
 
 abbrev session : Device → Text → Session
 session d t = record { device = d; text = t }
@@ -41,16 +41,16 @@ after-append s p q =
 pub answers-append : (s : Session) (p q : List ℕ) → answersIn s (p ++ q) ≡ answersIn s p ++ answersIn (afterOf s p) q
 unfolding answersIn afterOf
 answers-append s p q =
-    ap (answersTo (s .device)) (said-append (s .text) p q) ∙ answers-to-append (s .device) (saidIn (s .text) p) (saidIn (keptAfter (s .text) p) q)
+    ap (answerBytes (s .device)) (said-append (s .text) p q) ∙ answers-to-append (s .device) (saidIn (s .text) p) (saidIn (keptAfter (s .text) p) q)
 
 -- ---- the whole run: the answers to the pieces one after the other, and to the last line, are those to the lines of the input
-written-said : (s : Session) (ps : List (List ℕ)) → writtenBy s ps ≡ answersTo (s .device) (saidAll (s .text) ps)
+written-said : (s : Session) (ps : List (List ℕ)) → writtenBy s ps ≡ answerBytes (s .device) (saidAll (s .text) ps)
 unfolding writtenBy saidAll answersIn answersLast afterOf
 written-said s [] = refl
 written-said s (p ∷ ps) =
-    ap (λ (w : List ℕ). answersTo (s .device) (saidIn (s .text) p) ++ w) (written-said (afterOf s p) ps)
+    ap (λ (w : List ℕ). answerBytes (s .device) (saidIn (s .text) p) ++ w) (written-said (afterOf s p) ps)
     ∙ sym (answers-to-append (s .device) (saidIn (s .text) p) (saidAll (keptAfter (s .text) p) ps))
 
-pub written : (ps : List (List ℕ)) → writtenBy startOf ps ≡ outputOf (joined ps)
-unfolding outputOf
-written ps = written-said startOf ps ∙ ap (answersTo freshOf) (said-lines ps)
+pub written : (ps : List (List ℕ)) → writtenBy (startOf freshOf) ps ≡ printedFor (inputOf ps)
+unfolding printedFor
+written ps = written-said (startOf freshOf) ps ∙ ap (answerBytes freshOf) (said-lines ps)

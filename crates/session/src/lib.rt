@@ -4,8 +4,9 @@ ghost use mathlib.Core.Bool.{cond};
 ghost use Prim.Native.Nat.{_+_, _≤_};
 ghost use lib.ListN.{length};
 ghost use Rattle.texts.specs.Answers.{answerText};
-ghost use Rattle.rules.specs.Buffer.{fits, laidOf};
-ghost use Rattle.session.specs.Sessions.{outcomeBy, startOf, answersIn, answersLast, readOf, fedBy, answered, lineIn, lineFed};
+ghost use Rattle.texts.specs.Kept.{textRoom};
+ghost use Rattle.basics.specs.Buffer.{fits, laidOf};
+ghost use Rattle.session.specs.Sessions.{outcomeBy, startOf, answersIn, answersLast, bytesRead, fedBy, answered, finishedBy, lineIn, lineFed};
 use rules::Device;
 use texts::Text;
 
@@ -21,20 +22,20 @@ pub struct Fed {
     pub len: usize,
 }
 
-// From the fresh device.
-pub fn start() -> Session
-    ensures { λ r. ⌜ r ≡ startOf ⌝ }
-{
-    Session {
-        device: Device::fresh(),
-        text: texts::no_text(),
-    }
+// A device after a line, and where its answer ends in the buffer.
+pub struct Told {
+    pub device: Device,
+    pub len: usize,
 }
 
-// A device after a line, and where its answer ends in the buffer.
-struct Told {
-    device: Device,
-    len: usize,
+// Before the first byte.
+pub fn start(d: Device) -> Session
+    ensures { λ r. ⌜ r ≡ startOf d ⌝ }
+{
+    Session {
+        device: d,
+        text: texts::no_text(),
+    }
 }
 
 // Says a line that is kept to the device, and lays the answer into the buffer from a place.
@@ -43,16 +44,28 @@ fn tell(d: Device, t: Text, out: &mut [u8], at: usize) -> Told
     ensures { λ r. ⌜ now (out .exit) ≡ laidOf (now (out .entry)) at (answerText (outcomeBy d t .answer)) ⌝ }
     ensures { λ r. ⌜ r .len ≡ cond (fits (now (out .entry)) at (answerText (outcomeBy d t .answer))) (at + length (answerText (outcomeBy d t .answer))) at ⌝ }
 {
-    let o = event::event(d, lines::event_in(lines::says(t)));
+    let o = event::event(d, lines::event_of_line(t));
     let e = o.device;
     let a = o.answer;
     let n = texts::lay(texts::answer_text(a), out, at);
     Told { device: e, len: n }
 }
 
+// After a line that was told, the next line has no byte yet.
+fn told_on(f: Fed, next: usize, a: Told) -> Fed
+    ensures { λ r. ⌜ r .session ≡ startOf (a .device) ⌝ }
+    ensures { λ r. ⌜ (r .next ≡ next) × (r .len ≡ a .len) ⌝ }
+{
+    let mut g = f;
+    g.session = start(a.device);
+    g.next = next;
+    g.len = a.len;
+    g
+}
+
 // One line more of a piece, or what there is of one.
 fn take_line(f: Fed, piece: &[u8], out: &mut [u8]) -> Fed
-    requires { ⌜ f .len + 80 ≤ length (now out) ⌝ }
+    requires { ⌜ f .len + textRoom ≤ length (now out) ⌝ }
     ensures { λ r. ⌜ r ≡ lineFed f (lineIn (now (piece .entry)) (f .next)) ⌝ }
     ensures { λ r. ⌜ now (out .exit) ≡ laidOf (now (out .entry)) (f .len) (answersIn (f .session) (lineIn (now (piece .entry)) (f .next))) ⌝ }
 {
@@ -63,15 +76,7 @@ fn take_line(f: Fed, piece: &[u8], out: &mut [u8]) -> Fed
     let u = c.text;
     if c.whole {
         let a = tell(d, u, out, f.len);
-        let e = a.device;
-        return Fed {
-            session: Session {
-                device: e,
-                text: texts::no_text(),
-            },
-            next: c.next,
-            len: a.len,
-        };
+        return told_on(f, c.next, a);
     }
     Fed {
         session: Session { device: d, text: u },
@@ -82,8 +87,8 @@ fn take_line(f: Fed, piece: &[u8], out: &mut [u8]) -> Fed
 
 // A piece from a place on, up to its end or until an answer might find no room in the buffer.
 pub fn feed(s: Session, piece: &[u8], at: usize, out: &mut [u8]) -> Fed
-    ensures { λ r. ⌜ r ≡ fedBy s at (readOf s (now (piece .entry)) at (now (out .entry))) ⌝ }
-    ensures { λ r. ⌜ now (out .exit) ≡ answered (answersIn s (readOf s (now (piece .entry)) at (now (out .entry)))) (now (out .entry)) ⌝ }
+    ensures { λ r. ⌜ r ≡ fedBy s at (bytesRead s (now (piece .entry)) at (now (out .entry))) ⌝ }
+    ensures { λ r. ⌜ now (out .exit) ≡ answered (answersIn s (bytesRead s (now (piece .entry)) at (now (out .entry)))) (now (out .entry)) ⌝ }
     ensures { λ r. ⌜ r .len ≤ length (now (out .exit)) ⌝ }
 {
     let mut f = Fed {
@@ -91,23 +96,22 @@ pub fn feed(s: Session, piece: &[u8], at: usize, out: &mut [u8]) -> Fed
         next: at,
         len: 0,
     };
-    while (f.next < piece.len()) & (f.len + texts::MOST <= out.len()) {
+    while (f.next < piece.len()) & (f.len + texts::ROOM <= out.len()) {
         f = take_line(f, piece, out);
     }
     f
 }
 
 // At the end of the input: a last line with no line feed.
-pub fn finish(s: Session, out: &mut [u8]) -> usize
+pub fn finish(s: Session, out: &mut [u8]) -> Told
+    ensures { λ r. ⌜ r ≡ finishedBy s (now (out .entry)) ⌝ }
     ensures { λ r. ⌜ now (out .exit) ≡ laidOf (now (out .entry)) 0 (answersLast s) ⌝ }
-    ensures { λ r. ⌜ r ≡ cond (fits (now (out .entry)) 0 (answersLast s)) (length (answersLast s)) 0 ⌝ }
-    ensures { λ r. ⌜ r ≤ length (now (out .exit)) ⌝ }
+    ensures { λ r. ⌜ r .len ≤ length (now (out .exit)) ⌝ }
 {
     let t = s.text;
-    if t.len == 0 {
-        return 0;
-    }
     let d = s.device;
-    let a = tell(d, t, out, 0);
-    a.len
+    if t.len == 0 {
+        return Told { device: d, len: 0 };
+    }
+    tell(d, t, out, 0)
 }

@@ -3,5 +3,5 @@ use libc::STDERR_FILENO;
 use libc::STDOUT_FILENO;
 
 fn main() {
-    nightly::show_argument(STDOUT_FILENO, STDERR_FILENO);
+    image_files::show_argument(STDOUT_FILENO, STDERR_FILENO);
 }

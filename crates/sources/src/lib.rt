@@ -1,9 +1,10 @@
-// One interrupt source: commands, events, and what its command register reads; and vectors.
+// One interrupt source: commands, events, and what its command register reads.
 ghost use mathlib.Core.Path.{_≡_};
 ghost use mathlib.Core.Bool.{true};
 ghost use Prim.Native.Nat.{_≤_};
-ghost use Rattle.rules.specs.Registers.{withIus, withIe, withIp, ipCleared, commanded, statusOf, portCommandOf, counterCommandOf};
-ghost use Rattle.rules.specs.Interrupts.{raisedOf, firstOf, counterStatus, portStatus};
+ghost use Rattle.rules.specs.Registers.{ipCleared, commanded, statusOf, portCommandOf, counterCommandOf};
+ghost use Rattle.rules.specs.With.{withIus, withIe, withIp};
+ghost use Rattle.rules.specs.Interrupts.{raisedOf};
 use rules::Counter;
 use rules::Pattern;
 use rules::Source;
@@ -35,18 +36,11 @@ fn set_ie(s: Source, v: bool) -> Source
 }
 
 fn set_ip(s: Source) -> Source
-    ensures { λ r. ⌜ r ≡ withIp s true (s .err) (s .hidden) ⌝ }
+    ensures { λ r. ⌜ r ≡ withIp s true ⌝ }
 {
     let mut e = s;
     e.ip = true;
     e
-}
-
-// A source under service.
-pub fn serve(s: Source) -> Source
-    ensures { λ r. ⌜ r ≡ withIus s true ⌝ }
-{
-    set_ius(s, true)
 }
 
 // A written command, 0 to 7.
@@ -66,27 +60,27 @@ pub fn command(s: Source, n: u8) -> Source
 }
 
 // IUS, IE, IP, ERR in D7-D4.
-pub fn status(s: Source) -> u8
+fn status(s: Source) -> u8
     ensures { λ r. ⌜ (r ≡ statusOf s) × (r ≤ 240) ⌝ }
 {
-    bits::weight(s.ius, 128)
-        + bits::weight(s.ie, 64)
-        + bits::weight(s.ip, 32)
-        + bits::weight(s.err, 16)
+    basics::weight(s.ius, 128)
+        + basics::weight(s.ie, 64)
+        + basics::weight(s.ip, 32)
+        + basics::weight(s.err, 16)
 }
 
 // What the command register of a port reads.
 pub fn port_command(s: Source, q: Pattern) -> u8
     ensures { λ r. ⌜ r ≡ portCommandOf s q ⌝ }
 {
-    status(s) + (bits::weight(q.pmf, 2) + bits::weight(q.ioe, 1))
+    status(s) + (basics::weight(q.pmf, 2) + basics::weight(q.ioe, 1))
 }
 
 // What the command register of a counter reads.
 pub fn counter_command(s: Source, c: Counter) -> u8
     ensures { λ r. ⌜ r ≡ counterCommandOf s c ⌝ }
 {
-    status(s) + (bits::weight(c.rcc, 8) + bits::weight(c.gcb, 4) + bits::weight(c.cip, 1))
+    status(s) + (basics::weight(c.rcc, 8) + basics::weight(c.gcb, 4) + basics::weight(c.cip, 1))
 }
 
 // An event comes to a source; `hides` says whether it may set the hidden error.
@@ -103,46 +97,4 @@ pub fn raise(hides: bool, s: Source) -> Source
     }
     e.ip = true;
     e
-}
-
-// The first of five that holds, or 5.
-pub fn first(a: bool, b: bool, c: bool, d: bool, e: bool) -> usize
-    ensures { λ r. ⌜ (r ≡ firstOf a b c d e) × (r ≤ 5) ⌝ }
-{
-    if a {
-        return 0;
-    }
-    if b {
-        return 1;
-    }
-    if c {
-        return 2;
-    }
-    if d {
-        return 3;
-    }
-    if e {
-        return 4;
-    }
-    5
-}
-
-// A counter's vector with status; n is 0 for CT3, 1 for CT2, 2 for CT1.
-pub fn counter_vector(base: u8, n: u8, err: bool) -> u8
-    ensures { λ r. ⌜ r ≡ counterStatus base n err ⌝ }
-{
-    if err {
-        return base / 8 * 8 + 6 + base % 2;
-    }
-    base / 8 * 8 + 2 * (n % 4) + base % 2
-}
-
-// A port's vector with status.
-pub fn port_vector(base: u8, pmf: bool, err: bool) -> u8
-    ensures { λ r. ⌜ r ≡ portStatus base pmf err ⌝ }
-{
-    if pmf & !err {
-        return base / 16 * 16 + 2 + base % 2;
-    }
-    base / 16 * 16 + base % 2
 }

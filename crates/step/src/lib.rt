@@ -1,12 +1,18 @@
 // One step of a device, (a) to (f).
+mod pattern;
+
 ghost use mathlib.Core.Path.{_≡_};
 ghost use Prim.Native.Nat.{_<_};
-ghost use Rattle.rules.specs.Step.{eventAt, turned, counterTurn, catchers, caughtAt, matchedBy, patternTurn, settled, stepOf};
+ghost use Rattle.rules.specs.Record.{counterAt};
+ghost use Rattle.rules.specs.Registers.{lc};
+ghost use Rattle.rules.specs.Counters.{outputOf, linkOf};
+ghost use Rattle.rules.specs.PortData.{caughtOf};
+ghost use Rattle.rules.specs.Step.{linesAt, eventAt, turned, counterTurn, catchers, caughtAt, matchedBy, patternTurn, settled, stepOf};
 use rules::Counted;
-use rules::Counter;
 use rules::Device;
 use rules::Link;
 use rules::Port;
+use rules::Source;
 use rules::Stepped;
 use rules::Turned;
 
@@ -33,22 +39,66 @@ fn turned_by(d: Device, i: usize, r: Counted) -> Turned
     let mut e = d;
     e.counters[i] = c;
     Turned {
-        device: event_at(e, 4 - 2 * i, true, r.terminal),
+        device: event_at(e, Source::of_counter(i), true, r.terminal),
         terminal: r.terminal,
     }
 }
 
-// The turn of counter i.
-fn counter_turn(k: Link, timer: bool, were: u8, are: u8, i: usize, d: Device) -> Turned
+// The four lines of counter i, as D0 to D3.
+fn lines_at(d: Device, i: usize) -> u8
+    ensures { λ r. ⌜ r ≡ linesAt d i ⌝ }
+{
+    if i == 0 {
+        return levels::path_at(d, 1) / 16;
+    }
+    if i == 1 {
+        return levels::path_at(d, 1) % 16;
+    }
+    levels::path_at(d, 2) % 16
+}
+
+// The turn of counter i in the device d; d0 and d1 are those before the step and after (a).
+fn counter_turn(k: Link, timer: bool, d0: Device, d1: Device, i: usize, d: Device) -> Turned
     requires { ⌜ i < 3 ⌝ }
-    ensures { λ t. ⌜ t ≡ counterTurn k timer were are i d ⌝ }
+    ensures { λ t. ⌜ t ≡ counterTurn k timer (linesAt d0 i) (linesAt d1 i) i d ⌝ }
 {
     let c = d.counters[i];
-    turned_by(
-        d,
-        i,
-        counters::turn(device::counter_on(d.config, i), c, k, timer, were, are),
-    )
+    let enabled = levels::counter_on(d.config, i);
+    let r = counters::turn(enabled, c, k, timer, lines_at(d0, i), lines_at(d1, i));
+    turned_by(d, i, r)
+}
+
+// What LC makes of CT1's output before the step and after (b).
+fn link(lc: u8, before: bool, after: bool) -> Link
+    ensures { λ r. ⌜ r ≡ linkOf lc before after ⌝ }
+{
+    let rises = !before & after;
+    Link {
+        trigger: (lc == 2) & rises,
+        gate: !(lc == 1) | after,
+        only: lc == 3,
+        count: rises,
+    }
+}
+
+fn ct1_output(d: Device) -> bool
+    ensures { λ r. ⌜ r ≡ outputOf (counterAt d 0) ⌝ }
+{
+    counters::output(d.counters[0])
+}
+
+// The link of the device d1 after (a), from CT1 in the records d0 before the step and b after (b).
+fn linked(d0: Device, d1: Device, b: Device) -> Link
+    ensures { λ r. ⌜ r ≡ linkOf (lc d1) (outputOf (counterAt d0 0)) (outputOf (counterAt b 0)) ⌝ }
+{
+    let lc = d1.config % 4;
+    link(lc, ct1_output(d0), ct1_output(b))
+}
+
+fn caught(enabled: bool, q: Port, path: u8) -> u8
+    ensures { λ r. ⌜ r ≡ caughtOf enabled q path ⌝ }
+{
+    ports::places(enabled, q) & (q.catcher | path)
 }
 
 fn caught_at(d: Device, p: usize) -> Port
@@ -57,7 +107,7 @@ fn caught_at(d: Device, p: usize) -> Port
 {
     let q = d.ports[p];
     let mut e = q;
-    e.catcher = ports::caught(device::port_enabled(d, p), q, device::path_at(d, p));
+    e.catcher = caught(levels::port_enabled(d, p), q, levels::path_at(d, p));
     e
 }
 
@@ -77,7 +127,7 @@ fn matched_by(p: usize, matches: bool, d: Device) -> Device
     let q = d.patterns[p];
     let mut e = d;
     e.patterns[p].pmf = matches;
-    event_at(e, 1 + 2 * p, q.ioe, matches & !q.pmf)
+    event_at(e, Source::of_port(p), q.ioe, matches & !q.pmf)
 }
 
 fn pattern_turn(p: usize, before: u8, d: Device) -> Device
@@ -87,7 +137,7 @@ fn pattern_turn(p: usize, before: u8, d: Device) -> Device
     let q = d.patterns[p];
     matched_by(
         p,
-        ports::matches(device::port_enabled(d, p), q, before, device::seen_at(d, p)),
+        pattern::matches(levels::port_enabled(d, p), q, before, levels::seen_at(d, p)),
         d,
     )
 }
@@ -103,44 +153,20 @@ fn settle(was_a: u8, was_b: u8, d: Device) -> Device
 pub fn step(timer: bool, d0: Device, d1: Device) -> Stepped
     ensures { λ r. ⌜ r ≡ stepOf timer d0 d1 ⌝ }
 {
-    let none = Link {
+    let unlinked = Link {
         trigger: false,
         gate: true,
         only: false,
         count: false,
     };
-    let b = counter_turn(
-        none,
-        timer,
-        device::lines_at(d0, 0),
-        device::lines_at(d1, 0),
-        0,
-        d1,
-    );
+    let b = counter_turn(unlinked, timer, d0, d1, 0, d1);
     let db = b.device;
-    let link = counters::link(
-        d1.config % 4,
-        counters::output(d0.counters[0]),
-        counters::output(db.counters[0]),
-    );
-    let c = counter_turn(
-        link,
-        timer,
-        device::lines_at(d0, 1),
-        device::lines_at(d1, 1),
-        1,
-        db,
-    );
-    let d = counter_turn(
-        none,
-        timer,
-        device::lines_at(d0, 2),
-        device::lines_at(d1, 2),
-        2,
-        c.device,
-    );
+    let c = counter_turn(linked(d0, d1, db), timer, d0, d1, 1, db);
+    let dc = c.device;
+    let d = counter_turn(unlinked, timer, d0, d1, 2, dc);
+    let dd = d.device;
     Stepped {
-        device: settle(device::seen_at(d0, 0), device::seen_at(d0, 1), d.device),
+        device: settle(levels::seen_at(d0, 0), levels::seen_at(d0, 1), dd),
         terminals: [b.terminal, c.terminal, d.terminal],
     }
 }

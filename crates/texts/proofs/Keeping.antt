@@ -1,4 +1,4 @@
--- What a text of at most 80 bytes keeps of a line of any length: all of it, or that it is too long.
+-- What a text keeps of a line of any length: all of it, or that it has no room.
 -- Assumes nothing.
 use Prim.Native.Nat.{ℕ, _+_, _≤_, _<_}
 use mathlib.Core.List.{List, [], _∷_, _++_, append-assoc, append-nil}
@@ -10,20 +10,20 @@ use native.Mathlib.Omega.{arith}
 use borrow.Author.Tests.{lt-ltb, le-ltb}
 use lib.ListN.{length, take, set, length-append, length-set}
 use lib.Seq.{take-suc-set}
-use Rattle.texts.specs.Kept.{noText, pushed, typed, keptLen, bytesOf}
+use Rattle.texts.specs.Kept.{textRoom, noText, pushed, typed, keptLen, bytesOf}
 use Rattle.texts.specs.declared.Text.{Text}
 
 -- the text holds the line's bytes
 pub record Holds (t : Text) (w : List ℕ) : Type 0 where
-  pub short : length w ≤ 80
+  pub short : length w ≤ textRoom
   pub len : t .len ≡ length w
   pub bytes : take (t .len) (t .bytes) ≡ w
-  pub room : length (t .bytes) ≡ 80
+  pub room : length (t .bytes) ≡ textRoom
 
--- the line is too long, and the text says so
+-- the line has no room, and the text says so
 pub record Passes (t : Text) (w : List ℕ) : Type 0 where
-  pub past : 80 < length w
-  pub len : t .len ≡ 81
+  pub past : textRoom < length w
+  pub len : t .len ≡ textRoom + 1
 
 abbrev pub Keeps : Text → List ℕ → Type 0
 Keeps t w = Holds t w ⊎ Passes t w
@@ -32,16 +32,16 @@ last-length : (w : List ℕ) (b : ℕ) → length (w ++ (b ∷ [])) ≡ length w
 last-length w b = length-append w (b ∷ [])
 
 -- ---- one byte more
-push-more : (t : Text) (b : ℕ) → t .len < 80 → pushed t b ≡ record { bytes = set (t .bytes) (t .len) b; len = t .len + 1 }
+push-more : (t : Text) (b : ℕ) → t .len < textRoom → pushed t b ≡ record { bytes = set (t .bytes) (t .len) b; len = t .len + 1 }
 unfolding pushed
-push-more t b h = simp (lt-ltb (t .len) 80 h)
+push-more t b h = simp (lt-ltb (t .len) textRoom h)
 
-push-past : (t : Text) (b : ℕ) → 80 ≤ t .len → pushed t b ≡ record { bytes = t .bytes; len = 81 }
+push-past : (t : Text) (b : ℕ) → textRoom ≤ t .len → pushed t b ≡ record { bytes = t .bytes; len = textRoom + 1 }
 unfolding pushed
-push-past t b h = simp (le-ltb (t .len) 80 h)
+push-past t b h = simp (le-ltb (t .len) textRoom h)
 
 module _ (t : Text) (w : List ℕ) (b : ℕ) where
-  holds-more : Holds t w → length w < 80 → Keeps (pushed t b) (w ++ (b ∷ []))
+  holds-more : Holds t w → length w < textRoom → Keeps (pushed t b) (w ++ (b ∷ []))
   holds-more h g =
       let e = h .len in
       let r = h .room in
@@ -57,14 +57,14 @@ module _ (t : Text) (w : List ℕ) (b : ℕ) where
         room = length-set (t .bytes) (t .len) b ∙ h .room;
       })
 
-  past-more : 80 ≤ t .len → 80 ≤ length w → Keeps (pushed t b) (w ++ (b ∷ []))
+  past-more : textRoom ≤ t .len → textRoom ≤ length w → Keeps (pushed t b) (w ++ (b ∷ []))
   past-more h g =
       let m = last-length w b in
       inr (subst (λ (u : Text). Passes u (w ++ (b ∷ []))) (sym (push-past t b h)) record { past = omega arith; len = refl })
 
   holds-next : Holds t w → Keeps (pushed t b) (w ++ (b ∷ []))
   holds-next h =
-      ⊎-elim (λ (e : length w ≡ 80). let l = h .len in past-more (omega arith) (omega arith)) (λ g. holds-more h g) (eq-or-lt-of-le (h .short))
+      ⊎-elim (λ (e : length w ≡ textRoom). let l = h .len in past-more (omega arith) (omega arith)) (λ g. holds-more h g) (eq-or-lt-of-le (h .short))
 
   passes-next : Passes t w → Keeps (pushed t b) (w ++ (b ∷ []))
   passes-next p = let e = p .len in let g = p .past in past-more (omega arith) (omega arith)
@@ -86,10 +86,15 @@ keeps w = keeps-on noText [] w (inl record { short = omega arith; len = refl; by
 -- ---- a line that is held
 pub holds-bytes : (t : Text) (w : List ℕ) → Holds t w → bytesOf t ≡ w
 unfolding bytesOf keptLen
-holds-bytes t w h = let e = h .len in let s = h .short in simp (le-ltb 80 (t .len) (omega arith)) (h .bytes)
+holds-bytes t w h = let e = h .len in let s = h .short in simp (le-ltb textRoom (t .len) (omega arith)) (h .bytes)
 
--- ---- a line of at most 80 bytes is kept whole
-pub bytes-line : (w : List ℕ) → length w ≤ 80 → bytesOf (typed noText w) ≡ w
+-- of a line that has no room no byte is
+pub passes-bytes : (t : Text) (w : List ℕ) → Passes t w → bytesOf t ≡ []
+unfolding bytesOf keptLen
+passes-bytes t w p = let e = p .len in simp (lt-ltb textRoom (t .len) (omega arith))
+
+-- ---- a line that has room is kept whole
+pub bytes-line : (w : List ℕ) → length w ≤ textRoom → bytesOf (typed noText w) ≡ w
 bytes-line w s = ⊎-elim (λ h. holds-bytes (typed noText w) w h) (λ p. let g = p .past in absurd (omega arith)) (keeps w)
 
 -- something is kept of a line that is not empty

@@ -1,2 +1,3 @@
+pub mod Spelled
 pub mod Kept
 pub mod Answers

@@ -1,26 +1,27 @@
 // The line of an answer.
 ghost use mathlib.Core.Path.{_≡_};
 ghost use mathlib.Core.Bool.{cond};
-ghost use mathlib.Core.List.{[], _∷_};
 ghost use Prim.Native.Nat.{_+_, _<_};
 ghost use lib.ListN.{length};
 ghost use Rattle.texts.specs.Kept.{noText, typed, bytesOf};
-ghost use Rattle.texts.specs.Answers.{glyphOf, hexText, nibbleText, flagText, placeText, decimalText, countText, answerText};
-ghost use Rattle.rules.specs.Buffer.{fits, laidOf};
+ghost use Rattle.texts.specs.Answers.{glyphOf, hexText, nibbleText, flagText, placeText, decimalText, countText, reportText, answerText};
+ghost use Rattle.basics.specs.Buffer.{fits, laidOf};
 use crate::Text;
 use crate::kept::kept_len;
 use crate::kept::no_text;
 use crate::kept::push;
 use rules::Answer;
+use rules::Report;
 
 // The capital hexadecimal digit of the lower four bits.
 pub fn glyph(n: u8) -> u8
     ensures { λ r. ⌜ r ≡ glyphOf n ⌝ }
 {
-    if n % 16 < 10 {
-        return 48 + n % 16;
+    let d = n % 16;
+    if d < 10 {
+        return b'0' + d;
     }
-    55 + n % 16
+    b'A' + (d - 10)
 }
 
 fn hex(t: Text, n: u8) -> Text
@@ -53,10 +54,11 @@ fn place(t: Text, p: u32, n: u32) -> Text
     if n < p {
         return t;
     }
-    push(t, 48 + (n / p % 10) as u8)
+    push(t, b'0' + (n / p % 10) as u8)
 }
 
-fn decimal(t: Text, n: u32) -> Text
+// A number in decimal.
+pub fn decimal(t: Text, n: u32) -> Text
     ensures { λ r. ⌜ r ≡ typed t (decimalText n) ⌝ }
 {
     let t9 = place(t, 1000000000, n);
@@ -68,7 +70,7 @@ fn decimal(t: Text, n: u32) -> Text
     let t3 = place(t4, 1000, n);
     let t2 = place(t3, 100, n);
     let t1 = place(t2, 10, n);
-    push(t1, 48 + (n % 10) as u8)
+    push(t1, b'0' + (n % 10) as u8)
 }
 
 fn count(t: Text, n: u32) -> Text
@@ -77,16 +79,22 @@ fn count(t: Text, n: u32) -> Text
     decimal(push(t, b' '), n)
 }
 
+fn report(t: Text, r: Report) -> Text
+    ensures { λ u. ⌜ u ≡ typed t (reportText r) ⌝ }
+{
+    let n = r.terminals;
+    count(count(count(t, n[0]), n[1]), n[2])
+}
+
 // The line of an answer, with its line feed.
 pub fn answer_text(a: Answer) -> Text
     ensures { λ r. ⌜ r ≡ typed noText (answerText a) ⌝ }
 {
-    let n = a.terminals;
+    let r = a.report;
     let code = decimal(no_text(), a.code as u32);
     let pins = nibble(hex(hex(hex(code, a.value), a.a), a.b), a.c);
     let levels = flag(flag(pins, a.int), a.ieo);
-    let counts = count(count(count(levels, n[0]), n[1]), n[2]);
-    push(counts, b'\n')
+    push(report(levels, r), b'\n')
 }
 
 // Lays a text into a buffer from a place, and answers the place after it; where it does not fit, nothing.
@@ -95,5 +103,5 @@ pub fn lay(t: Text, buf: &mut [u8], at: usize) -> usize
 {
     let n = kept_len(t);
     let b = t.bytes;
-    bits::lay(buf, at, &b[..n])
+    basics::lay(buf, at, &b[..n])
 }

@@ -1,15 +1,15 @@
 // A line's bytes as they are kept.
 ghost use mathlib.Core.Path.{_≡_};
 ghost use Prim.Native.Nat.{_≤_};
-ghost use Rattle.texts.specs.Kept.{noText, pushed, keptLen};
-use crate::MOST;
+ghost use Rattle.texts.specs.Kept.{textRoom, noText, pushed, keptLen};
+use crate::ROOM;
 use crate::Text;
 
 pub fn no_text() -> Text
     ensures { λ r. ⌜ r ≡ noText ⌝ }
 {
     Text {
-        bytes: [0; 80],
+        bytes: [0; ROOM],
         len: 0,
     }
 }
@@ -20,20 +20,20 @@ pub fn push(t: Text, b: u8) -> Text
 {
     let n = t.len;
     let mut u = t;
-    if n < MOST {
+    if n < ROOM {
         u.bytes[n] = b;
         u.len = n + 1;
         return u;
     }
-    u.len = MOST + 1;
+    u.len = ROOM + 1;
     u
 }
 
-// How many bytes are kept: none of a line that is too long.
+// How many bytes are kept: none of a line that has no room.
 pub fn kept_len(t: Text) -> usize
-    ensures { λ r. ⌜ (r ≡ keptLen t) × (r ≤ 80) ⌝ }
+    ensures { λ r. ⌜ (r ≡ keptLen t) × (r ≤ textRoom) ⌝ }
 {
-    if MOST < t.len {
+    if ROOM < t.len {
         return 0;
     }
     t.len

@@ -3,16 +3,17 @@ mod answers;
 mod kept;
 
 pub use answers::answer_text;
+pub use answers::decimal;
 pub use answers::glyph;
 pub use answers::lay;
 pub use kept::no_text;
 pub use kept::push;
 
-// The most bytes of a line.
-pub const MOST: usize = 80;
+// The room of a text: any answer fits, and so does any line that paper 01 lets a trace have.
+pub const ROOM: usize = 96;
 
-// The bytes of a line, its first `len`; a `len` above MOST says that it has more than MOST.
+// The bytes of a line, its first `len`; a `len` above ROOM says that they have no room.
 pub struct Text {
-    pub bytes: [u8; 80],
+    pub bytes: [u8; ROOM],
     pub len: usize,
 }

@@ -1,7 +1,7 @@
 -- What each accepted event does to a sound record leaves a sound record: the seven kinds, and the clocks.
 -- Assumes nothing.
 use Prim.Native.Nat.{ℕ, zero, suc, _<_}
-use mathlib.Core.Path.{_≡_, refl, sym, subst}
+use mathlib.Core.Path.{_≡_, refl, sym, subst, _∙_}
 use mathlib.Core.Bool.{Bool, true, false, not, _&&_, _||_, cond, So, true≢false}
 use mathlib.Core.List.{List, [], _∷_}
 use native.Mathlib.Omega.{arith}
@@ -10,30 +10,34 @@ use lib.ListN.{getD}
 use borrow.Author.Tests.{eqb-true, ltb-false, not-false}
 use Rattle.rules.specs.declared.Device.{Device}
 use Rattle.rules.specs.declared.Event.{Event}
-use Rattle.rules.specs.declared.Done.{Done}
+use Rattle.rules.specs.declared.Effect.{Effect}
 use Rattle.rules.specs.declared.Ran.{Ran}
-use Rattle.rules.specs.Record.{withPhase}
+use Rattle.rules.specs.With.{withPhase}
+use Rattle.rules.specs.Report.{noReport}
 use Rattle.rules.specs.Registers.{kindIn, kindOf, reset, readOnly, later}
 use Rattle.rules.specs.Interrupts.{requester}
-use Rattle.rules.specs.Step.{stepOf, counted, clockOf, iterate, ranOf}
+use Rattle.rules.specs.Step.{stepOf, reported, clockOf, ranOf}
+use Rattle.basics.specs.Iterate.{iterate}
 use Rattle.rules.specs.Access.{readOf, afterRead, writtenOf}
-use Rattle.rules.specs.Events.{isX, isW, isR, isP, isT, isK, isE, unknown, noRegister, tooLarge, held, codeOf, done, writeDone, readDone, outsideSet, pinsDone, clocksDone, acknowledgeDone, ieiDone, doneOf}
+use Rattle.rules.specs.Events.{isX, isW, isR, isP, isT, isK, isE, unknown, noRegister, tooLarge, held, codeOf, effect, writeEffect}
+use Rattle.rules.specs.Events.{readEffect, outsideSet, pinsEffect, clocksEffect, acknowledgeEffect, ieiEffect, effectOf}
 use Rattle.rules.specs.Sound.{soundOf}
-use Rattle.theorems.proofs.Tests.{allOf, each, not-so, never, by-test}
+use Rattle.basics.proofs.Tests.{allOf, each, not-so, never, by-test}
 use Rattle.theorems.proofs.Parts.{Base, Sound}
 use Rattle.theorems.proofs.Steps.{step-sound}
 use Rattle.theorems.proofs.Writes.{master-base, outside-base, written-base}
 use Rattle.theorems.proofs.Stepless.{reset-sound, read-sound, acknowledge-sound, iei-sound, phase-base, phase-sound}
+use Rattle.theorems.proofs.Addresses.{later-kind}
 use Rattle.theorems.proofs.Codes.{acknowledges}
 use Rattle.theorems.proofs.Refusals.{code-0}
 
 -- ---- the clock
 pub clock-parts : (s : Ran) → Sound (s .device) → Sound (clockOf s .device)
-unfolding clockOf counted
+unfolding clockOf reported
 clock-parts s h =
     let d = s .device in
-    let stepped = counted (s .terminals) (stepOf true d (withPhase d false)) in
-    let flipped : Ran = record { device = withPhase d true; terminals = s .terminals } in
+    let stepped = reported (s .report) (stepOf true d (withPhase d false)) in
+    let flipped : Ran = record { device = withPhase d true; report = s .report } in
     by-test (λ (r : Ran). Sound (r .device)) (reset d) s (cond (d .phase) stepped flipped) (λ _. h)
     (λ z.
     by-test (λ (r : Ran). Sound (r .device)) (d .phase) stepped flipped
@@ -46,7 +50,7 @@ clocks-parts (suc n) s h = clock-parts (iterate n clockOf s) (clocks-parts n s h
 
 pub ran-parts : (n : ℕ) (d : Device) → Sound d → Sound (ranOf n d .device)
 unfolding ranOf
-ran-parts n d h = clocks-parts n (record { device = d; terminals = 0 ∷ 0 ∷ 0 ∷ [] }) h
+ran-parts n d h = clocks-parts n (record { device = d; report = noReport }) h
 
 -- ---- a write and a read; under RESET they come to register 00 alone
 -- not under RESET, or register 00
@@ -58,26 +62,26 @@ reached : (d : Device) (a : ℕ) (r : Bool) → reset d ≡ r → (reset d && no
 reached d a true p h = first (eqb-true a 0 (not-false (eqb a 0) (simp p at h)))
 reached d a false p h = free p
 
-write-base : (d : Device) (a b : ℕ) → Sound d → later (kindOf a) b ≡ false → Reached d a → Base (writtenOf d (kindOf a) b)
+write-base : (d : Device) (a b : ℕ) → Sound d → later d a b ≡ false → Reached d a → Base (writtenOf d (kindOf a) b)
 unfolding writtenOf kindOf kindIn
-write-base d a b h l (free z) = written-base d (h .base) z (kindOf a) b l
+write-base d a b h l (free z) = written-base d (h .base) z (kindOf a) b (sym (later-kind d a b) ∙ l)
 write-base d a b h l (first q) = subst (λ (n : ℕ). Base (writtenOf d (kindOf n) b)) (sym q) (master-base d b (h .base))
 
-read-parts : (d : Device) (a : ℕ) → Sound d → Reached d a → Sound (afterRead d (kindOf a))
-unfolding afterRead kindOf kindIn
-read-parts d a h (free z) = read-sound d z h (kindOf a)
-read-parts d a h (first q) = subst (λ (n : ℕ). Sound (afterRead d (kindOf n))) (sym q) h
+read-parts : (d : Device) (a : ℕ) → Sound d → Reached d a → Sound (afterRead d a)
+unfolding afterRead
+read-parts d a h (free z) = read-sound d z h a
+read-parts d a h (first q) = subst (λ (n : ℕ). Sound (afterRead d n)) (sym q) h
 
-write-done : (d : Device) (a b : ℕ) → Sound d → ((reset d && not (eqb a 0)) ≡ false → later (kindOf a) b ≡ false) → Sound (writeDone d a b .device)
-unfolding writeDone
-write-done d a b h l =
-    by-test (λ (r : Done). Sound (r .device)) (reset d && not (eqb a 0)) (done d 0) (done (stepOf false d (writtenOf d (kindOf a) b) .device) 0)
+write-effect : (d : Device) (a b : ℕ) → Sound d → ((reset d && not (eqb a 0)) ≡ false → later d a b ≡ false) → Sound (writeEffect d a b .device)
+unfolding writeEffect
+write-effect d a b h l =
+    by-test (λ (r : Effect). Sound (r .device)) (reset d && not (eqb a 0)) (effect d 0) (effect (stepOf false d (writtenOf d (kindOf a) b) .device) 0)
     (λ _. h) (λ z. step-sound false d (writtenOf d (kindOf a) b) (write-base d a b h (l z) (reached d a (reset d) refl z)))
 
-read-done : (d : Device) (a : ℕ) → Sound d → Sound (readDone d a .device)
-unfolding readDone
-read-done d a h =
-    by-test (λ (r : Done). Sound (r .device)) (reset d && not (eqb a 0)) (done d 0) (done (afterRead d (kindOf a)) (readOf d (kindOf a)))
+read-effect : (d : Device) (a : ℕ) → Sound d → Sound (readEffect d a .device)
+unfolding readEffect
+read-effect d a h =
+    by-test (λ (r : Effect). Sound (r .device)) (reset d && not (eqb a 0)) (effect d 0) (effect (afterRead d a) (readOf d (kindOf a)))
     (λ _. h) (λ z. read-parts d a h (reached d a (reset d) refl z))
 
 -- ---- what code 0 tells of a write, of outside levels, of an acknowledge
@@ -100,7 +104,7 @@ or-else false b h p = h
 
 module _ (d : Device) (e : Event) (z : codeOf d e ≡ 0) where
   abbrev rest : List Bool
-  rest = not (isW e && readOnly (kindOf (e .a))) ∷ not (isW e && later (kindOf (e .a)) (e .b)) ∷ not (isK e && eqb (requester d) 5) ∷ []
+  rest = not (isW e && readOnly (e .a)) ∷ not (isW e && later d (e .a) (e .b)) ∷ not (isK e && eqb (requester d) 5) ∷ []
 
   abbrev tests : List Bool
   tests = soundOf d ∷ not (unknown e) ∷ not (noRegister e) ∷ not (tooLarge e) ∷ (held d e || allOf rest) ∷ []
@@ -111,11 +115,11 @@ module _ (d : Device) (e : Event) (z : codeOf d e ≡ 0) where
   unless-held : held d e ≡ false → (i : ℕ) → So (getD rest i true)
   unless-held h = each rest (or-else (held d e) (allOf rest) (passed 4) h)
 
-  write-now : So (isW e) → (reset d && not (eqb (e .a) 0)) ≡ false → later (kindOf (e .a)) (e .b) ≡ false
+  write-now : So (isW e) → (reset d && not (eqb (e .a) 0)) ≡ false → later d (e .a) (e .b) ≡ false
   unfolding held
   write-now w h =
-      without (isW e) (later (kindOf (e .a)) (e .b)) w
-      (not-so (isW e && later (kindOf (e .a)) (e .b)) (unless-held (unheld (reset d) (isW e) (not (eqb (e .a) 0)) h) 1))
+      without (isW e) (later d (e .a) (e .b)) w
+      (not-so (isW e && later d (e .a) (e .b)) (unless-held (unheld (reset d) (isW e) (not (eqb (e .a) 0)) h) 1))
 
   pins-small : So (isP e) → e .c < 16
   unfolding tooLarge
@@ -133,19 +137,19 @@ module _ (d : Device) (e : Event) (z : codeOf d e ≡ 0) where
       (not-so (isK e && eqb (requester d) 5) (unless-held (acknowledges d e k .free) 2))
 
   -- ---- the seven kinds
-  pub done-parts : Sound d → Sound (doneOf d e .device)
-  unfolding doneOf pinsDone clocksDone acknowledgeDone ieiDone
-  done-parts h =
-      by-test (λ (r : Done). Sound (r .device)) (isX e) _ _ (λ _. reset-sound d (h .base .four .outside))
+  pub effect-parts : Sound d → Sound (effectOf d e .device)
+  unfolding effectOf pinsEffect clocksEffect acknowledgeEffect ieiEffect
+  effect-parts h =
+      by-test (λ (r : Effect). Sound (r .device)) (isX e) _ _ (λ _. reset-sound d (h .base .four .outside))
       (λ _.
-      by-test (λ (r : Done). Sound (r .device)) (isW e) _ _ (λ w. write-done d (e .a) (e .b) h (write-now w))
+      by-test (λ (r : Effect). Sound (r .device)) (isW e) _ _ (λ w. write-effect d (e .a) (e .b) h (write-now w))
       (λ _.
-      by-test (λ (r : Done). Sound (r .device)) (isR e) _ _ (λ _. read-done d (e .a) h)
+      by-test (λ (r : Effect). Sound (r .device)) (isR e) _ _ (λ _. read-effect d (e .a) h)
       (λ _.
-      by-test (λ (r : Done). Sound (r .device)) (isP e) _ _
+      by-test (λ (r : Effect). Sound (r .device)) (isP e) _ _
       (λ p. step-sound false d (outsideSet d (e .a) (e .b) (e .c)) (outside-base d (e .a) (e .b) (e .c) (pins-small p) (h .base)))
       (λ _.
-      by-test (λ (r : Done). Sound (r .device)) (isT e) _ _ (λ _. ran-parts (e .a) d h)
+      by-test (λ (r : Effect). Sound (r .device)) (isT e) _ _ (λ _. ran-parts (e .a) d h)
       (λ _.
-      by-test (λ (r : Done). Sound (r .device)) (isK e) _ _ (λ k. acknowledge-sound d (requested k) h)
+      by-test (λ (r : Effect). Sound (r .device)) (isK e) _ _ (λ k. acknowledge-sound d (requested k) h)
       (λ _. iei-sound d (eqb (e .a) 1) h))))))

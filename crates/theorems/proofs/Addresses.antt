@@ -1,40 +1,60 @@
--- The addresses at which a write is refused with code 3 or 4, as the paper lists them: what `readOnly` and `later` say of the table of kinds.
+-- Code 4 by kind: what `later`, which goes by address, says of each kind of register.
 -- Assumes nothing.
-use Prim.Native.Nat.{ℕ, _≤_}
-use mathlib.Core.Path.{_≡_, refl, sym, ap, _∙_}
-use mathlib.Core.Bool.{Bool, true, false, _&&_, _||_, cond}
-use mathlib.Core.List.{List}
+use Prim.Native.Nat.{ℕ}
+use mathlib.Core.Path.{_≡_, refl}
+use mathlib.Core.Bool.{Bool, true, false, _&&_, _||_, Bool·beq, and-false}
 use native.Mathlib.Omega.{arith}
-use lib.Dec.{eqb, ltb, leb}
-use lib.ListN.{getD}
-use borrow.Author.Tests.{ltb-true, ltb-false, le-ltb, ne-eqb}
-use Rattle.rules.specs.Registers.{portKind, kindIn, kindOf, readOnly, later, laterPortMode, laterConfig, laterCounterMode}
-use Rattle.bits.proofs.Tabled.{tabled, at}
-use Rattle.theorems.proofs.Tests.{and-false}
+use lib.Dec.{ltb}
+use borrow.Author.Tests.{ltb-true, ltb-false, lt-leb, ne-eqb}
+use Rattle.rules.specs.declared.Device.{Device}
+use Rattle.rules.specs.declared.Kind.{Kind}
+use Rattle.rules.specs.declared.Kind.the-variants.{Master, Config, Vector, Polarity, Direction, Special, PortCommand, CounterCommand}
+use Rattle.rules.specs.declared.Kind.the-variants.{Data, Current, Constant, CounterMode, CurrentVector, PortMode, Handshake, PatternPolarity, Transition, Mask, Absent}
+use Rattle.basics.specs.Signs.{_==_, within}
+use Rattle.rules.specs.Registers.{portKind, kindIn, kindOf, later, laterPortMode, laterConfig, laterCounterMode}
+use Rattle.basics.proofs.Truth.{rows, all3, same}
+use Rattle.basics.proofs.Laws.{below}
 
--- two rules that agree below 48, which antt computes, and from 48 on
-agree : (f g : ℕ → Bool) → tabled f 0 48 ≡ tabled g 0 48 → ((a : ℕ) → 48 ≤ a → f a ≡ g a) → (t : Bool) (a : ℕ) → ltb a 48 ≡ t → f a ≡ g a
-agree f g e h true a p =
-    sym (at f 48 a false (ltb-true a 48 p)) ∙ ap (λ (l : List Bool). getD l a false) e ∙ at g 48 a false (ltb-true a 48 p)
-agree f g e h false a p = h a (ltb-false a 48 p)
+-- by the tests of a port mode, of the configuration and of a counter mode
+abbrev byKind : Bool → Bool → Bool → Kind → Bool
+byKind p c m Master = false
+byKind p c m Config = c
+byKind p c m (Vector v) = false
+byKind p c m (Polarity i) = false
+byKind p c m (Direction i) = false
+byKind p c m (Special i) = false
+byKind p c m (PortCommand i) = false
+byKind p c m (CounterCommand i) = false
+byKind p c m (Data i) = false
+byKind p c m (Current i high) = false
+byKind p c m (Constant i high) = false
+byKind p c m (CounterMode i) = m
+byKind p c m CurrentVector = false
+byKind p c m (PortMode i) = p
+byKind p c m (Handshake i) = false
+byKind p c m (PatternPolarity i) = false
+byKind p c m (Transition i) = false
+byKind p c m (Mask i) = false
+byKind p c m Absent = false
 
--- "W to 10H-15H or 1FH"
-pub read-only-at : (a : ℕ) → readOnly (kindOf a) ≡ ((leb 16 a && ltb a 22) || eqb a 31)
-unfolding readOnly kindOf kindIn portKind
-read-only-at a =
-    agree (λ a. readOnly (kindOf a)) (λ a. (leb 16 a && ltb a 22) || eqb a 31) refl
-    (λ a h. simp (le-ltb a 48 h, le-ltb a 22 (omega arith), ne-eqb a 31 (λ e. omega arith), and-false)) (ltb a 48) a refl
+abbrev byAddress : Bool → Bool → Bool → ℕ → Bool
+byAddress p c m a = ((a == 0x20 || a == 0x28) && p) || (a == 0x01 && c) || (within 0x1C 0x1E a && m)
 
--- "20H/28H with D7-D6 not 00, D2-D1 = 11 or D0 = 1; 01H with D3 = 1; 1CH-1EH with D1-D0 = 11"
-pub later-at : (a b : ℕ)
-    → later (kindOf a) b
-    ≡ cond (eqb a 32 || eqb a 40) (laterPortMode b) (cond (eqb a 1) (laterConfig b) (cond (leb 28 a && ltb a 31) (laterCounterMode b) false))
-unfolding later kindOf kindIn portKind
-later-at a b =
-    agree (λ a. later (kindOf a) b)
-    (λ a. cond (eqb a 32 || eqb a 40) (laterPortMode b) (cond (eqb a 1) (laterConfig b) (cond (leb 28 a && ltb a 31) (laterCounterMode b) false)))
-    refl
-    (λ a h.
+-- they agree at the 48 addresses, which antt computes, and past them
+agree : (t : Bool) (p c m : Bool) (a : ℕ) → ltb a 48 ≡ t → byAddress p c m a ≡ byKind p c m (kindOf a)
+unfolding kindOf kindIn portKind
+agree true p c m a h =
+    same _ _
+    (all3 (λ p c m. Bool·beq (byAddress p c m a) (byKind p c m (kindOf a)))
+    (below (λ a. rows (λ p. rows (λ c. rows (λ m. Bool·beq (byAddress p c m a) (byKind p c m (kindOf a)))))) 48 tt a (ltb-true a 48 h)) p c m)
+agree false p c m a h =
+    let g = ltb-false a 48 h in
     simp
-    (le-ltb a 48 h, le-ltb a 31 (omega arith), ne-eqb a 32 (λ e. omega arith), ne-eqb a 40 (λ e. omega arith), ne-eqb a 1 (λ e. omega arith), and-false))
-    (ltb a 48) a refl
+    (h, lt-leb a 0x1E (omega arith), ne-eqb a 0x20 (λ e. omega arith), ne-eqb a 0x28 (λ e. omega arith), ne-eqb a 0x01 (λ e. omega arith), and-false)
+
+abbrev pub laterKind : Kind → ℕ → Bool
+laterKind k b = byKind (laterPortMode b) (laterConfig b) (laterCounterMode b) k
+
+pub later-kind : (d : Device) (a b : ℕ) → later d a b ≡ laterKind (kindOf a) b
+unfolding later
+later-kind d a b = agree _ (laterPortMode b) (laterConfig b) (laterCounterMode b) a refl

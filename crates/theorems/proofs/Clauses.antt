@@ -10,11 +10,13 @@ use Rattle.rules.specs.declared.Device.{Device}
 use Rattle.rules.specs.declared.Port.{Port}
 use Rattle.rules.specs.Record.{vectorAt, portAt, patternAt, counterAt, sourceAt, quiet, idle, bare, blank, resetOf}
 use Rattle.rules.specs.Registers.{reset, portEnabled, counterEnabled, laterConfig, laterPortMode, laterCounterMode}
-use Rattle.rules.specs.Sound.{fourBits, noLater, soundSource, soundCounter, pmfOnly, soundSources, soundCounters, soundPortAt, soundPorts, soundPatterns, resetOnly, soundOf, sameSource, sameCounter, samePort, samePattern, sameSources, sameCounters, samePorts, samePatterns, sameVectors, sameOf}
-use Rattle.theorems.proofs.Tests.{both, each, so-not, not-so, if-then, only-if}
-use Rattle.theorems.proofs.Places.{each2, each3, each5}
+use Rattle.rules.specs.Sound.{fourBits, noLater, soundSource, soundCounter, pmfOnly, soundSources, soundCounters, soundPortAt, soundPorts}
+use Rattle.rules.specs.Sound.{soundPatterns, resetOnly, soundOf, sameSource, sameCounter, samePort, samePattern, sameSources, sameCounters, samePorts, samePatterns, sameVectors, sameOf}
+use Rattle.basics.proofs.Tabled.{tabled}
+use Rattle.basics.proofs.Tests.{so-both, each, so-not, not-so}
+use Rattle.basics.proofs.Places.{each2, each3, each5}
 use Rattle.theorems.proofs.Equal.{beq-true, beq-refl, same-source, same-counter, same-port, same-pattern, source-same, counter-same, port-same, pattern-same}
-use Rattle.theorems.proofs.Parts.{SourceSound, CounterSound, Cleared, Sound, source-sound, sound-source, counter-sound, sound-counter, four-bits, bits-four}
+use Rattle.theorems.proofs.Parts.{if-then, only-if, SourceSound, CounterSound, Cleared, Sound, source-sound, sound-source, counter-sound, sound-counter, four-bits, bits-four}
 
 -- ---- under RESET
 module _ (d : Device) where
@@ -57,18 +59,18 @@ module _ (d : Device) where
   same-as h =
       let port : (p : ℕ) → p < 3 → So (samePort (portAt d p) (bare (portAt d p .outside))) =
       λ p l. subst (λ (r : Port). So (samePort (portAt d p) r)) (h .ports p l) (port-same (portAt d p)) in
-      both
-      (both
-      (both
-      (both
-      (both
-      (both
-      (both
-      (both (eq-eqb (d .master) 1 (h .master)) (eq-eqb (d .config) 0 (h .config)))
-      (both
-      (both (eq-eqb (vectorAt d 0) 0 (h .vectors 0 (lit< tt))) (eq-eqb (vectorAt d 1) 0 (h .vectors 1 (lit< tt))))
+      so-both
+      (so-both
+      (so-both
+      (so-both
+      (so-both
+      (so-both
+      (so-both
+      (so-both (eq-eqb (d .master) 1 (h .master)) (eq-eqb (d .config) 0 (h .config)))
+      (so-both
+      (so-both (eq-eqb (vectorAt d 0) 0 (h .vectors 0 (lit< tt))) (eq-eqb (vectorAt d 1) 0 (h .vectors 1 (lit< tt))))
       (eq-eqb (vectorAt d 2) 0 (h .vectors 2 (lit< tt)))))
-      (both (both (port 0 (lit< tt)) (port 1 (lit< tt))) (port 2 (lit< tt))))
+      (so-both (so-both (port 0 (lit< tt)) (port 1 (lit< tt))) (port 2 (lit< tt))))
       (simp (h .patterns 0 (lit< tt), h .patterns 1 (lit< tt), pattern-same blank)))
       (simp (h .counters 0 (lit< tt), h .counters 1 (lit< tt), h .counters 2 (lit< tt), counter-same idle)))
       (simp (h .sources 0 (lit< tt), h .sources 1 (lit< tt), h .sources 2 (lit< tt), h .sources 3 (lit< tt), h .sources 4 (lit< tt), source-same quiet)))
@@ -82,14 +84,11 @@ sound-parts d h =
     let part = each (noLater d ∷ soundSources d ∷ soundCounters d ∷ soundPorts d ∷ soundPatterns d ∷ resetOnly d ∷ []) h in
     let mode =
     each
-    (not (laterConfig (d .config)) ∷ not (laterPortMode (patternAt d 0 .mode)) ∷ not (laterPortMode (patternAt d 1 .mode)) ∷ not (laterCounterMode (counterAt d 0 .mode)) ∷ not (laterCounterMode (counterAt d 1 .mode)) ∷ not (laterCounterMode (counterAt d 2 .mode)) ∷ [])
+    (not (laterConfig (d .config)) ∷ not (laterPortMode (patternAt d 0 .mode)) ∷ not (laterPortMode (patternAt d 1 .mode))
+    ∷ tabled (λ i. not (laterCounterMode (counterAt d i .mode))) 0 3)
     (part 0) in
-    let source =
-    each (soundSource (sourceAt d 0) ∷ soundSource (sourceAt d 1) ∷ soundSource (sourceAt d 2) ∷ soundSource (sourceAt d 3) ∷ soundSource (sourceAt d 4) ∷ []) (part 1) in
-    let counter =
-    each
-    (soundCounter (counterEnabled d 0) (counterAt d 0) ∷ soundCounter (counterEnabled d 1) (counterAt d 1) ∷ soundCounter (counterEnabled d 2) (counterAt d 2) ∷ [])
-    (part 2) in
+    let source = each (tabled (λ k. soundSource (sourceAt d k)) 0 5) (part 1) in
+    let counter = each (tabled (λ i. soundCounter (counterEnabled d i) (counterAt d i)) 0 3) (part 2) in
     let port = each (fourBits (portAt d 2) ∷ soundPortAt d 0 ∷ soundPortAt d 1 ∷ soundPortAt d 2 ∷ []) (part 3) in
     let pattern = each (pmfOnly (portEnabled d 0) (patternAt d 0) ∷ pmfOnly (portEnabled d 1) (patternAt d 1) ∷ []) (part 4) in
     record {
@@ -118,24 +117,24 @@ pub parts-sound : (d : Device) → Sound d → So (soundOf d)
 unfolding soundOf noLater soundSources soundCounters soundPorts soundPatterns resetOnly
 parts-sound d h =
     let b = h .base in
-    both
-    (both
-    (both
-    (both
-    (both
-    (both
-    (both
-    (both
-    (both (both (so-not (b .config)) (so-not (b .modes 0 (lit< tt)))) (so-not (b .modes 1 (lit< tt))))
+    so-both
+    (so-both
+    (so-both
+    (so-both
+    (so-both
+    (so-both
+    (so-both
+    (so-both
+    (so-both (so-both (so-not (b .config)) (so-not (b .modes 0 (lit< tt)))) (so-not (b .modes 1 (lit< tt))))
     (so-not (b .counters 0 (lit< tt) .mode)))
     (so-not (b .counters 1 (lit< tt) .mode)))
     (so-not (b .counters 2 (lit< tt) .mode)))
-    (both
-    (both
-    (both (both (sound-source (b .sources 0 (lit< tt))) (sound-source (b .sources 1 (lit< tt)))) (sound-source (b .sources 2 (lit< tt))))
+    (so-both
+    (so-both
+    (so-both (so-both (sound-source (b .sources 0 (lit< tt))) (sound-source (b .sources 1 (lit< tt)))) (sound-source (b .sources 2 (lit< tt))))
     (sound-source (b .sources 3 (lit< tt))))
     (sound-source (b .sources 4 (lit< tt)))))
-    (both (both (sound-counter (b .counters 0 (lit< tt))) (sound-counter (b .counters 1 (lit< tt)))) (sound-counter (b .counters 2 (lit< tt)))))
-    (both (both (both (bits-four (b .four)) (h .ports 0 (lit< tt))) (h .ports 1 (lit< tt))) (h .ports 2 (lit< tt))))
-    (both (h .patterns 0 (lit< tt)) (h .patterns 1 (lit< tt))))
+    (so-both (so-both (sound-counter (b .counters 0 (lit< tt))) (sound-counter (b .counters 1 (lit< tt)))) (sound-counter (b .counters 2 (lit< tt)))))
+    (so-both (so-both (so-both (bits-four (b .four)) (h .ports 0 (lit< tt))) (h .ports 1 (lit< tt))) (h .ports 2 (lit< tt))))
+    (so-both (h .patterns 0 (lit< tt)) (h .patterns 1 (lit< tt))))
     (only-if (reset d) (sameOf d (resetOf d)) (λ r. same-as d (b .held r)))

@@ -2,20 +2,24 @@
 -- Assumes nothing.
 use Prim.Native.Nat.{ℕ}
 use mathlib.Core.Path.{_≡_, refl}
-use mathlib.Core.Bool.{Bool, true, false, not, _&&_, _||_, cond, So, false≢true}
+use mathlib.Core.Bool.{Bool, true, false, not, _&&_, _||_, cond, So, false≢true, and-false}
 use lib.Dec.{eqb}
 use Rattle.rules.specs.declared.Counter.{Counter}
 use Rattle.rules.specs.declared.Counted.{Counted}
 use Rattle.rules.specs.declared.Reach.{Reach}
-use Rattle.rules.specs.Byte.{bit}
+use Rattle.basics.specs.Byte.{bit}
 use Rattle.rules.specs.Registers.{laterCounterMode}
-use Rattle.rules.specs.Counters.{at, square, continuous, retrigger, takes, loaded, lessOne, terminalOf, countOf, counts, turnOf, withGcb, withFrozen, frozenBy, triggeredBy, commandedBy, thawed, enabledBy}
-use Rattle.rules.specs.Access.{withConstant, withMode}
-use Rattle.theorems.proofs.Tests.{left, right, and-false, by-test}
+use Rattle.rules.specs.With.{withCount, withFrozen, withRcc, withGcb, withCip, withHalf, withConstant, withMode}
+use Rattle.rules.specs.Counters.{square, continuous, retrigger, takes, loaded, lessOne, terminalOf, countOf, counts, turnOf, frozenBy, triggeredBy, commandedBy, thawed, enabledBy}
+use Rattle.basics.proofs.Tests.{left, right, by-test}
 use Rattle.theorems.proofs.Parts.{CounterSound}
 
 no : {A : Type 0} → So false → A
 no h = absurd (false≢true h)
+
+-- another count, CIP and half
+abbrev at : Counter → ℕ → Bool → Bool → Counter
+at c n r s = withHalf (withCip (withCount c n) r) s
 
 at-sound : {e : Bool} {c : Counter} (n : ℕ) (r s : Bool) → CounterSound e c → (So r → So e) → (So s → So r) → CounterSound e (at c n r s)
 at-sound n r s h f g = record { mode = h .mode; cip = f; half = g; frozen = h .frozen }
@@ -74,7 +78,7 @@ gcb-sound c v h = record { mode = h .mode; cip = h .cip; half = h .half; frozen 
 frozen-sound : {e : Bool} (v : Bool) (c : Counter) → CounterSound e c → CounterSound e (frozenBy v c)
 unfolding frozenBy
 frozen-sound {e} v c h =
-    by-test (CounterSound e) (v && not (c .rcc)) (withFrozen c true (c .count)) c
+    by-test (CounterSound e) (v && not (c .rcc)) (withFrozen (withRcc c true) (c .count)) c
     (λ _. record { mode = h .mode; cip = h .cip; half = h .half; frozen = no }) (λ _. h)
 
 triggered-sound : {e : Bool} (v : Bool) (c : Counter) → CounterSound e c → CounterSound e (triggeredBy v e c)

@@ -12,7 +12,7 @@ use Rattle.rules.specs.declared.Counter.{Counter}
 use Rattle.rules.specs.declared.Port.{Port}
 use Rattle.rules.specs.declared.Pattern.{Pattern}
 use Rattle.rules.specs.Sound.{sameSource, sameCounter, samePort, samePattern}
-use Rattle.theorems.proofs.Tests.{allOf, each}
+use Rattle.basics.proofs.Tests.{allOf, each}
 
 pub beq-true : (a b : Bool) → So (Bool·beq a b) → a ≡ b
 beq-true true true h = refl

@@ -1,20 +1,40 @@
-pub mod Tests
-pub mod Places
+-- A sound record: the tests for equality, what soundness says part by part, and what keeps each part sound.
 pub mod Equal
+pub mod Same
 pub mod Parts
 pub mod Clauses
+pub mod Addresses
 pub mod CounterLaws
 pub mod SourceLaws
 pub mod PortLaws
 pub mod PatternLaws
 pub mod Stores
+-- What an event does: a step, a write, what needs no step.
 pub mod Steps
 pub mod Writes
 pub mod Stepless
+-- Which events are refused, with which code, and which numbers are ignored.
 pub mod Codes
 pub mod Refusals
-pub mod Addresses
+pub mod Ignored
+-- Every event and every list of events keeps a sound record sound, and its shape.
 pub mod Accepted
 pub mod Soundness
 pub mod Shapes
-pub mod Same
+pub mod Traces
+-- Clocks: reports, and demand 3.
+pub mod ReportLaws
+pub mod Frame
+pub mod Reports
+pub mod Demand3
+-- Clocks: a free-running counter by division.
+pub mod Countdown
+pub mod Lines
+pub mod Timer
+pub mod Division
+-- Clocks: many at once, as whole rounds and as a stretch.
+pub mod Rounds
+pub mod Alike
+pub mod Lowered
+pub mod Turns
+pub mod Stretch

@@ -1,8 +1,8 @@
 -- A sound record, clause by clause: what `soundOf` tests, as facts about each source, counter, port and pattern.
 -- Assumes nothing.
 use Prim.Native.Nat.{ℕ, _<_}
-use mathlib.Core.Path.{_≡_}
-use mathlib.Core.Bool.{Bool, false, not, _&&_, So}
+use mathlib.Core.Path.{_≡_, refl}
+use mathlib.Core.Bool.{Bool, true, false, not, _&&_, So, false≢true}
 use mathlib.Core.List.{[], _∷_}
 use lib.Dec.{eqb, ltb}
 use borrow.Author.Tests.{ltb-true, lt-ltb}
@@ -12,8 +12,17 @@ use Rattle.rules.specs.declared.Port.{Port}
 use Rattle.rules.specs.declared.Device.{Device}
 use Rattle.rules.specs.Record.{vectorAt, portAt, patternAt, counterAt, sourceAt, quiet, idle, bare, blank}
 use Rattle.rules.specs.Registers.{reset, portEnabled, counterEnabled, laterConfig, laterPortMode, laterCounterMode}
-use Rattle.rules.specs.Sound.{fourBits, errOnly, hiddenOnly, soundSource, cipOnly, halfOnly, frozenOnly, soundCounter, pmfOnly, soundPortAt}
-use Rattle.theorems.proofs.Tests.{both, left, right, each, if-then, only-if}
+use Rattle.rules.specs.Sound.{only, fourBits, errOnly, hiddenOnly, soundSource, cipOnly, halfOnly, frozenOnly, soundCounter, pmfOnly, soundPortAt}
+use Rattle.basics.proofs.Tests.{so-both, left, right, each}
+
+-- ---- if the first, the second
+pub if-then : (a b : Bool) → So (only a b) → So a → So b
+if-then true b h p = h
+if-then false b h p = absurd (false≢true p)
+
+pub only-if : (a b : Bool) → (So a → So b) → So (only a b)
+only-if true b f = f refl
+only-if false b f = refl
 
 -- ---- one source, one counter, port C
 pub record SourceSound (s : Source) : Type 0 where
@@ -44,7 +53,7 @@ source-sound {s} h =
 
 pub sound-source : {s : Source} → SourceSound s → So (soundSource s)
 unfolding soundSource errOnly hiddenOnly
-sound-source {s} h = both (only-if (s .err) (s .ip) (h .err)) (only-if (s .hidden) (s .ip && not (s .err)) (h .hidden))
+sound-source {s} h = so-both (only-if (s .err) (s .ip) (h .err)) (only-if (s .hidden) (s .ip && not (s .err)) (h .hidden))
 
 pub counter-sound : {e : Bool} {c : Counter} → laterCounterMode (c .mode) ≡ false → So (soundCounter e c) → CounterSound e c
 unfolding soundCounter cipOnly halfOnly frozenOnly
@@ -60,7 +69,7 @@ counter-sound {e} {c} m h =
 pub sound-counter : {e : Bool} {c : Counter} → CounterSound e c → So (soundCounter e c)
 unfolding soundCounter cipOnly halfOnly frozenOnly
 sound-counter {e} {c} h =
-    both (both (only-if (c .cip) e (h .cip)) (only-if (c .half) (c .cip) (h .half)))
+    so-both (so-both (only-if (c .cip) e (h .cip)) (only-if (c .half) (c .cip) (h .half)))
     (only-if (not (c .rcc)) (eqb (c .frozen) 0) (h .frozen))
 
 pub four-bits : {q : Port} → So (fourBits q) → FourBits q
@@ -81,7 +90,7 @@ four-bits {q} h =
 pub bits-four : {q : Port} → FourBits q → So (fourBits q)
 unfolding fourBits
 bits-four {q} h =
-    both (both (both (both (both (lt-ltb _ 16 (h .polarity)) (lt-ltb _ 16 (h .direction))) (lt-ltb _ 16 (h .special))) (lt-ltb _ 16 (h .output)))
+    so-both (so-both (so-both (so-both (so-both (lt-ltb _ 16 (h .polarity)) (lt-ltb _ 16 (h .direction))) (lt-ltb _ 16 (h .special))) (lt-ltb _ 16 (h .output)))
     (lt-ltb _ 16 (h .outside)))
     (lt-ltb _ 16 (h .catcher))
 

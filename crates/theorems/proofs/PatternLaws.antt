@@ -4,10 +4,12 @@ use Prim.Native.Nat.{ℕ}
 use mathlib.Core.Path.{_≡_, refl}
 use mathlib.Core.Bool.{Bool, true, false, not, _&&_, _||_, So, false≢true}
 use Rattle.rules.specs.declared.Pattern.{Pattern}
-use Rattle.rules.specs.Byte.{bit, every, any}
-use Rattle.rules.specs.Patterns.{onBit, hitBit, onAt, hitAt, andMatch, orMatch, isAnd, isOr, matchOf, withPmf}
+use Rattle.basics.specs.Byte.{bit, every, any}
+use Rattle.rules.specs.Patterns.{onBit, hitBit, onAt, hitAt, andMatch, orMatch, isAnd, isOr, matchOf}
+use Rattle.rules.specs.With.{withPmf}
 use Rattle.rules.specs.Sound.{pmfOnly}
-use Rattle.theorems.proofs.Tests.{left, only-if}
+use Rattle.basics.proofs.Tests.{left}
+use Rattle.theorems.proofs.Parts.{only-if}
 
 either : (a b c e : Bool) → (So a → So c) → (So b → So e) → So (a || b) → So (c || e)
 either true b true e f g h = refl

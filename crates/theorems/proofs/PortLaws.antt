@@ -7,16 +7,14 @@ use native.Mathlib.Nat.{mod-lt}
 use native.Mathlib.Omega.{arith}
 use lib.Dec.{eqb, ltb, lit<, ltb→lt}
 use Rattle.rules.specs.declared.Port.{Port}
-use Rattle.rules.specs.Byte.{bit, num, byteOf}
+use Rattle.basics.specs.Byte.{bit, num, byteOf}
 use Rattle.rules.specs.Registers.{kept}
+use Rattle.rules.specs.With.{withCatcher, withPolarity, withDirection, withSpecial, withOutside}
 use Rattle.rules.specs.PortData.{catches, caughtBit, catchesAt, caughtOf, outputBit, clearedBit, putOf, unprotected, writtenData}
-use Rattle.rules.specs.Step.{withCatcher}
-use Rattle.rules.specs.Access.{withPolarity, withDirection, withSpecial}
-use Rattle.rules.specs.Events.{withOutside}
 use Rattle.rules.specs.Sound.{only, catcherOnly, catcherSet, soundPort}
-use Rattle.bits.proofs.Truth.{all3, all4, same}
-use Rattle.bits.proofs.Laws.{bit-byte}
-use Rattle.theorems.proofs.Tests.{both, so-every}
+use Rattle.basics.proofs.Truth.{all3, all4, same}
+use Rattle.basics.proofs.Laws.{bit-byte}
+use Rattle.basics.proofs.Tests.{so-both, so-every}
 use Rattle.theorems.proofs.Parts.{FourBits}
 
 -- ---- bytes of four bits
@@ -114,6 +112,6 @@ pub caught-sound : (e : Bool) (q : Port) (path : ℕ) → So (soundPort e (withC
 unfolding soundPort catcherOnly catcherSet caughtOf catchesAt
 caught-sound e q path =
     let f : ℕ → Bool = λ k. caughtBit (catchesAt e q k) (bit (q .catcher) k) (bit path k) in
-    both
+    so-both
     (so-every _ (λ k l. simp (bit-byte f k l) (caught-only (catchesAt e q k) (bit (q .catcher) k) (bit path k))))
     (so-every _ (λ k l. simp (bit-byte f k l) (caught-set (catchesAt e q k) (bit (q .catcher) k) (bit path k))))

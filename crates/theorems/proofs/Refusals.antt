@@ -11,12 +11,14 @@ use borrow.Author.Tests.{eqb-true, eqb-false, eq-eqb}
 use Rattle.rules.specs.declared.Device.{Device}
 use Rattle.rules.specs.declared.Event.{Event}
 use Rattle.rules.specs.declared.Outcome.{Outcome}
-use Rattle.rules.specs.Registers.{kindOf, readOnly, later}
+use Rattle.rules.specs.Report.{noReport}
+use Rattle.rules.specs.Registers.{readOnly, later}
 use Rattle.rules.specs.Interrupts.{requester}
 use Rattle.rules.specs.Sound.{soundOf}
-use Rattle.rules.specs.Events.{isW, isK, unknown, noRegister, tooLarge, held, codeOf, done, doneOf, answerOf, unsoundAnswer, outcomeOf, eventOf}
-use Rattle.theorems.proofs.Tests.{both, each, so-not, by-test}
-use Rattle.theorems.proofs.Codes.{refusedReadOnly, refusedLater, refusedIdle, test-9, test-1, test-2, test-5, test-3, test-4, test-6, test-0, write-known, no-register-known, too-large-known, acknowledges}
+use Rattle.rules.specs.Events.{isW, isK, unknown, noRegister, tooLarge, held, codeOf, effect, effectOf, answerOf, unsoundAnswer, outcomeOf, eventOf}
+use Rattle.basics.proofs.Tests.{so-both, each, so-not, by-test}
+use Rattle.theorems.proofs.Codes.{refusedReadOnly, refusedLater, refusedIdle, test-9, test-1, test-2, test-5, test-3, test-4}
+use Rattle.theorems.proofs.Codes.{test-6, test-0, write-known, no-register-known, too-large-known, acknowledges}
 
 -- not both, and the one: not the other
 alone : (a b : Bool) → So a → So (not (a && b)) → So (not b)
@@ -31,13 +33,13 @@ none false b h = refl
 module _ (d : Device) (e : Event) where
   -- the three ways of an event: an unsound record, an accepted event, a refusal
   pub ways : (P : Outcome → Type 0) → (codeOf d e ≡ 9 → P (record { device = d; answer = unsoundAnswer }))
-      → (codeOf d e ≡ 0 → P (outcomeOf 0 (doneOf d e))) → ((codeOf d e ≡ 9 → ⊥) → P (outcomeOf (codeOf d e) (done d 0))) → P (eventOf d e)
+      → (codeOf d e ≡ 0 → P (outcomeOf 0 (effectOf d e))) → ((codeOf d e ≡ 9 → ⊥) → P (outcomeOf (codeOf d e) (effect d 0))) → P (eventOf d e)
   unfolding eventOf
   ways P f g h =
       by-test P (eqb (codeOf d e) 9) (record { device = d; answer = unsoundAnswer })
-      (cond (eqb (codeOf d e) 0) (outcomeOf 0 (doneOf d e)) (outcomeOf (codeOf d e) (done d 0))) (λ t. f (eqb-true (codeOf d e) 9 t))
+      (cond (eqb (codeOf d e) 0) (outcomeOf 0 (effectOf d e)) (outcomeOf (codeOf d e) (effect d 0))) (λ t. f (eqb-true (codeOf d e) 9 t))
       (λ n.
-      by-test P (eqb (codeOf d e) 0) (outcomeOf 0 (doneOf d e)) (outcomeOf (codeOf d e) (done d 0)) (λ t. g (eqb-true (codeOf d e) 0 t))
+      by-test P (eqb (codeOf d e) 0) (outcomeOf 0 (effectOf d e)) (outcomeOf (codeOf d e) (effect d 0)) (λ t. g (eqb-true (codeOf d e) 0 t))
       (λ _. h (eqb-false (codeOf d e) 9 n)))
 
   -- ---- the answer's code is the one of the order of the refusals
@@ -45,7 +47,7 @@ module _ (d : Device) (e : Event) where
   unfolding outcomeOf answerOf
   code-is = ways (λ o. o .answer .code ≡ codeOf d e) sym sym (λ _. refl)
 
-  -- ---- "A refused event hands its record back as it came", with value 0 and no terminal counts
+  -- ---- "A refused event hands its record back as it came", with value 0 and nothing to report
   pub refused-keeps : (eventOf d e .answer .code ≡ 0 → ⊥) → eventOf d e .device ≡ d
   unfolding outcomeOf
   refused-keeps ne = ways (λ o. o .device ≡ d) (λ _. refl) (λ z. absurd (ne (code-is ∙ z))) (λ _. refl)
@@ -54,9 +56,9 @@ module _ (d : Device) (e : Event) where
   unfolding outcomeOf answerOf
   refused-value ne = ways (λ o. o .answer .value ≡ 0) (λ _. refl) (λ z. absurd (ne (code-is ∙ z))) (λ _. refl)
 
-  pub refused-terminals : (eventOf d e .answer .code ≡ 0 → ⊥) → eventOf d e .answer .terminals ≡ 0 ∷ 0 ∷ 0 ∷ []
+  pub refused-report : (eventOf d e .answer .code ≡ 0 → ⊥) → eventOf d e .answer .report ≡ noReport
   unfolding outcomeOf answerOf
-  refused-terminals ne = ways (λ o. o .answer .terminals ≡ 0 ∷ 0 ∷ 0 ∷ []) (λ _. refl) (λ z. absurd (ne (code-is ∙ z))) (λ _. refl)
+  refused-report ne = ways (λ o. o .answer .report ≡ noReport) (λ _. refl) (λ z. absurd (ne (code-is ∙ z))) (λ _. refl)
 
   -- "With code 9 on an event, value, pins, lines and counts are all 0."
   pub unsound-answer : eventOf d e .answer .code ≡ 9 → eventOf d e .answer ≡ unsoundAnswer
@@ -65,10 +67,10 @@ module _ (d : Device) (e : Event) where
 
   -- with another refusal the lines are those of the record
   pub refused-answer : (eventOf d e .answer .code ≡ 0 → ⊥) → (eventOf d e .answer .code ≡ 9 → ⊥)
-      → eventOf d e .answer ≡ answerOf (codeOf d e) (done d 0)
+      → eventOf d e .answer ≡ answerOf (codeOf d e) (effect d 0)
   unfolding outcomeOf
   refused-answer ne nine =
-      ways (λ o. o .answer ≡ answerOf (codeOf d e) (done d 0)) (λ n. absurd (nine (code-is ∙ n))) (λ z. absurd (ne (code-is ∙ z))) (λ _. refl)
+      ways (λ o. o .answer ≡ answerOf (codeOf d e) (effect d 0)) (λ n. absurd (nine (code-is ∙ n))) (λ z. absurd (ne (code-is ∙ z))) (λ _. refl)
 
   -- ---- each code is given exactly when: "Order: 9, 1, 2, 5, reset hold, 3, 4, 6."
   exactly : (n : ℕ) (x : Bool) → eqb (codeOf d e) n ≡ x → (codeOf d e ≡ n) ↔ So x
@@ -86,8 +88,8 @@ module _ (d : Device) (e : Event) where
   pub code-2 : (codeOf d e ≡ 2) ↔ So (soundOf d && noRegister e)
   code-2 =
       let test = exactly 2 _ (test-2 d e) in (
-        λ q. let part = each (soundOf d ∷ not (unknown e) ∷ noRegister e ∷ []) (test .0 q) in both (part 0) (part 2),
-        λ s. let part = each (soundOf d ∷ noRegister e ∷ []) s in test .1 (both (both (part 0) (so-not (no-register-known e (part 1)))) (part 1)),
+        λ q. let part = each (soundOf d ∷ not (unknown e) ∷ noRegister e ∷ []) (test .0 q) in so-both (part 0) (part 2),
+        λ s. let part = each (soundOf d ∷ noRegister e ∷ []) s in test .1 (so-both (so-both (part 0) (so-not (no-register-known e (part 1)))) (part 1)),
       )
 
   -- "a byte, a or b above 255, c above 15, v above 1"
@@ -96,10 +98,10 @@ module _ (d : Device) (e : Event) where
       let test = exactly 5 _ (test-5 d e) in (
         λ q.
             let part = each (soundOf d ∷ not (unknown e) ∷ not (noRegister e) ∷ tooLarge e ∷ []) (test .0 q) in
-            both (both (part 0) (part 2)) (part 3),
+            so-both (so-both (part 0) (part 2)) (part 3),
         λ s.
             let part = each (soundOf d ∷ not (noRegister e) ∷ tooLarge e ∷ []) s in
-            test .1 (both (both (both (part 0) (so-not (too-large-known e (part 2)))) (part 1)) (part 2)),
+            test .1 (so-both (so-both (so-both (part 0) (so-not (too-large-known e (part 2)))) (part 1)) (part 2)),
       )
 
   -- a write that comes to its register: of a byte to one of the 48, with no reset hold
@@ -107,36 +109,36 @@ module _ (d : Device) (e : Event) where
   reaches = soundOf d && isW e && not (noRegister e) && not (tooLarge e) && not (held d e)
 
   -- "W to 10H-15H or 1FH"
-  pub code-3 : (codeOf d e ≡ 3) ↔ So (reaches && readOnly (kindOf (e .a)))
+  pub code-3 : (codeOf d e ≡ 3) ↔ So (reaches && readOnly (e .a))
   code-3 =
       let test = exactly 3 _ (test-3 d e) in
-      let r = readOnly (kindOf (e .a)) in (
+      let r = readOnly (e .a) in (
         λ q.
             let part = each (soundOf d ∷ not (unknown e) ∷ not (noRegister e) ∷ not (tooLarge e) ∷ not (held d e) ∷ refusedReadOnly e ∷ []) (test .0 q) in
             let write = each (isW e ∷ r ∷ []) (part 5) in
-            both (both (both (both (both (part 0) (write 0)) (part 2)) (part 3)) (part 4)) (write 1),
+            so-both (so-both (so-both (so-both (so-both (part 0) (write 0)) (part 2)) (part 3)) (part 4)) (write 1),
         λ s.
             let part = each (soundOf d ∷ isW e ∷ not (noRegister e) ∷ not (tooLarge e) ∷ not (held d e) ∷ r ∷ []) s in
-            test .1 (both (both (both (both (both (part 0) (so-not (write-known e (part 1)))) (part 2)) (part 3)) (part 4)) (both (part 1) (part 5))),
+            test .1 (so-both (so-both (so-both (so-both (so-both (part 0) (so-not (write-known e (part 1)))) (part 2)) (part 3)) (part 4)) (so-both (part 1) (part 5))),
       )
 
   -- "W of a setting left to later requests"
-  pub code-4 : (codeOf d e ≡ 4) ↔ So (reaches && not (readOnly (kindOf (e .a))) && later (kindOf (e .a)) (e .b))
+  pub code-4 : (codeOf d e ≡ 4) ↔ So (reaches && not (readOnly (e .a)) && later d (e .a) (e .b))
   code-4 =
       let test = exactly 4 _ (test-4 d e) in
-      let r = readOnly (kindOf (e .a)) in
-      let l = later (kindOf (e .a)) (e .b) in (
+      let r = readOnly (e .a) in
+      let l = later d (e .a) (e .b) in (
         λ q.
             let part =
-            each (soundOf d ∷ not (unknown e) ∷ not (noRegister e) ∷ not (tooLarge e) ∷ not (held d e) ∷ not (refusedReadOnly e) ∷ refusedLater e ∷ [])
+            each (soundOf d ∷ not (unknown e) ∷ not (noRegister e) ∷ not (tooLarge e) ∷ not (held d e) ∷ not (refusedReadOnly e) ∷ refusedLater d e ∷ [])
             (test .0 q) in
             let write = each (isW e ∷ l ∷ []) (part 6) in
-            both (both (both (both (both (both (part 0) (write 0)) (part 2)) (part 3)) (part 4)) (alone (isW e) r (write 0) (part 5))) (write 1),
+            so-both (so-both (so-both (so-both (so-both (so-both (part 0) (write 0)) (part 2)) (part 3)) (part 4)) (alone (isW e) r (write 0) (part 5))) (write 1),
         λ s.
             let part = each (soundOf d ∷ isW e ∷ not (noRegister e) ∷ not (tooLarge e) ∷ not (held d e) ∷ not r ∷ l ∷ []) s in
             test .1
-            (both (both (both (both (both (both (part 0) (so-not (write-known e (part 1)))) (part 2)) (part 3)) (part 4)) (none (isW e) r (part 5)))
-            (both (part 1) (part 6))),
+            (so-both (so-both (so-both (so-both (so-both (so-both (part 0) (so-not (write-known e (part 1)))) (part 2)) (part 3)) (part 4)) (none (isW e) r (part 5)))
+            (so-both (part 1) (part 6))),
       )
 
   -- "K with no source requesting"
@@ -146,24 +148,24 @@ module _ (d : Device) (e : Event) where
         λ q.
             let part =
             each
-            (soundOf d ∷ not (unknown e) ∷ not (noRegister e) ∷ not (tooLarge e) ∷ not (held d e) ∷ not (refusedReadOnly e) ∷ not (refusedLater e) ∷ refusedIdle d e ∷ [])
+            (soundOf d ∷ not (unknown e) ∷ not (noRegister e) ∷ not (tooLarge e) ∷ not (held d e) ∷ not (refusedReadOnly e) ∷ not (refusedLater d e) ∷ refusedIdle d e ∷ [])
             (test .0 q) in
             let idle = each (isK e ∷ eqb (requester d) 5 ∷ []) (part 7) in
-            both (both (part 0) (idle 0)) (idle 1),
+            so-both (so-both (part 0) (idle 0)) (idle 1),
         λ s.
             let part = each (soundOf d ∷ isK e ∷ eqb (requester d) 5 ∷ []) s in
             let k = acknowledges d e (part 1) in
             test .1
-            (both
-            (both
-            (both
-            (both (both (both (both (part 0) (so-not (k .known))) (so-not (k .register))) (so-not (k .small))) (so-not (k .free)))
+            (so-both
+            (so-both
+            (so-both
+            (so-both (so-both (so-both (so-both (part 0) (so-not (k .known))) (so-not (k .register))) (so-not (k .small))) (so-not (k .free)))
             (so-not (k .readable)))
             (so-not (k .now)))
-            (both (part 1) (part 2))),
+            (so-both (part 1) (part 2))),
       )
 
   -- "accepted": past 9, 1, 2 and 5, and then held by RESET or past 3, 4 and 6
   pub code-0 : (codeOf d e ≡ 0)
-      ↔ So (soundOf d && not (unknown e) && not (noRegister e) && not (tooLarge e) && (held d e || (not (isW e && readOnly (kindOf (e .a))) && not (isW e && later (kindOf (e .a)) (e .b)) && not (isK e && eqb (requester d) 5))))
+      ↔ So (soundOf d && not (unknown e) && not (noRegister e) && not (tooLarge e) && (held d e || (not (refusedReadOnly e) && not (refusedLater d e) && not (refusedIdle d e))))
   code-0 = exactly 0 _ (test-0 d e)

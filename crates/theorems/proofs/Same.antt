@@ -11,8 +11,9 @@ use borrow.Author.Tests.{eqb-true}
 use Rattle.rules.specs.declared.Device.{Device}
 use Rattle.rules.specs.Record.{Shaped, vectorAt, portAt, patternAt, counterAt, sourceAt, quiet, idle, bare, blank}
 use Rattle.rules.specs.Sound.{sameSource, sameCounter, samePort, samePattern, sameSources, sameCounters, samePorts, samePatterns, sameVectors, sameOf}
-use Rattle.theorems.proofs.Tests.{each}
-use Rattle.theorems.proofs.Places.{each2, each3, each5}
+use Rattle.basics.proofs.Tabled.{tabled}
+use Rattle.basics.proofs.Tests.{each}
+use Rattle.basics.proofs.Places.{each2, each3, each5}
 use Rattle.theorems.proofs.Equal.{beq-true, beq-refl, eqb-same, same-source, same-counter, same-port, same-pattern, source-same, counter-same, port-same, pattern-same}
 
 pub same-refl : (d : Device) → sameOf d d ≡ true
@@ -45,17 +46,13 @@ module _ (d e : Device) where
   counters-are : So (sameCounters d e) → (i : ℕ) → i < 3 → counterAt d i ≡ counterAt e i
   unfolding sameCounters
   counters-are h =
-      let part =
-      each (sameCounter (counterAt d 0) (counterAt e 0) ∷ sameCounter (counterAt d 1) (counterAt e 1) ∷ sameCounter (counterAt d 2) (counterAt e 2) ∷ []) h in
+      let part = each (tabled (λ i. sameCounter (counterAt d i) (counterAt e i)) 0 3) h in
       each3 (λ i. counterAt d i ≡ counterAt e i) (same-counter _ _ (part 0)) (same-counter _ _ (part 1)) (same-counter _ _ (part 2))
 
   sources-are : So (sameSources d e) → (k : ℕ) → k < 5 → sourceAt d k ≡ sourceAt e k
   unfolding sameSources
   sources-are h =
-      let part =
-      each
-      (sameSource (sourceAt d 0) (sourceAt e 0) ∷ sameSource (sourceAt d 1) (sourceAt e 1) ∷ sameSource (sourceAt d 2) (sourceAt e 2) ∷ sameSource (sourceAt d 3) (sourceAt e 3) ∷ sameSource (sourceAt d 4) (sourceAt e 4) ∷ [])
-      h in
+      let part = each (tabled (λ k. sameSource (sourceAt d k) (sourceAt e k)) 0 5) h in
       each5 (λ k. sourceAt d k ≡ sourceAt e k) (same-source _ _ (part 0)) (same-source _ _ (part 1)) (same-source _ _ (part 2)) (same-source _ _ (part 3))
       (same-source _ _ (part 4))
 
@@ -64,7 +61,9 @@ module _ (d e : Device) where
   same-is s t h =
       let part =
       each
-      (eqb (d .master) (e .master) ∷ eqb (d .config) (e .config) ∷ sameVectors d e ∷ samePorts d e ∷ samePatterns d e ∷ sameCounters d e ∷ sameSources d e ∷ Bool·beq (d .iei) (e .iei) ∷ Bool·beq (d .phase) (e .phase) ∷ [])
+      (eqb (d .master) (e .master) ∷ eqb (d .config) (e .config)
+      ∷ sameVectors d e ∷ samePorts d e ∷ samePatterns d e ∷ sameCounters d e ∷ sameSources d e
+      ∷ Bool·beq (d .iei) (e .iei) ∷ Bool·beq (d .phase) (e .phase) ∷ [])
       h in
       let vectors = lists 3 (d .vectors) (e .vectors) 0 (s .vectors) (t .vectors) (vectors-are (part 2)) in
       let ports = lists 3 (d .ports) (e .ports) (bare 0) (s .ports) (t .ports) (ports-are (part 3)) in

@@ -3,7 +3,6 @@
 use Prim.Native.Nat.{ℕ, zero, suc}
 use mathlib.Core.Path.{_≡_, refl, _∙_}
 use mathlib.Core.Bool.{Bool, true, false, not, _&&_, cond}
-use mathlib.Core.List.{[], _∷_}
 use lib.Dec.{eqb}
 use lib.ListN.{length, length-set}
 use Rattle.rules.specs.declared.Source.{Source}
@@ -14,20 +13,24 @@ use Rattle.rules.specs.declared.Device.{Device}
 use Rattle.rules.specs.declared.Counted.{Counted}
 use Rattle.rules.specs.declared.Event.{Event}
 use Rattle.rules.specs.declared.Outcome.{Outcome}
-use Rattle.rules.specs.declared.Done.{Done}
+use Rattle.rules.specs.declared.Effect.{Effect}
 use Rattle.rules.specs.declared.Ran.{Ran}
 use Rattle.rules.specs.declared.Link.{Link}
 use Rattle.rules.specs.declared.Kind.{Kind}
-use Rattle.rules.specs.declared.Kind.the-variants.{Master, Config, Vector, Polarity, Direction, Special, PortCommand, CounterCommand, Data, Current, Constant, CounterMode, CurrentVector, PortMode, Handshake, PatternPolarity, Transition, Mask, Absent}
-use Rattle.rules.specs.Byte.{bit}
-use Rattle.rules.specs.Record.{Shaped, freshOf, counterAt, sourceAt, ofPort, ofCounter, withMaster, withVector, withPort, withPattern, withCounter, withSource, withIei, withPhase, resetOf}
+use Rattle.rules.specs.declared.Kind.the-variants.{Master, Config, Vector, Polarity, Direction, Special, PortCommand, CounterCommand}
+use Rattle.rules.specs.declared.Kind.the-variants.{Data, Current, Constant, CounterMode, CurrentVector, PortMode, Handshake, PatternPolarity, Transition, Mask, Absent}
+use Rattle.basics.specs.Signs.{within}
+use Rattle.basics.specs.Byte.{bit}
+use Rattle.rules.specs.Record.{Shaped, freshOf, sourceAt, ofPort, ofCounter, resetOf}
+use Rattle.rules.specs.With.{withMaster, withVector, withPort, withPattern, withCounter, withSource, withIei, withPhase}
+use Rattle.rules.specs.Report.{noReport}
 use Rattle.rules.specs.Registers.{reset, kindOf}
-use Rattle.rules.specs.Counters.{thawed}
 use Rattle.rules.specs.Interrupts.{raisedOf, acknowledged}
-use Rattle.rules.specs.Step.{eventAt, turned, counterTurn, catchers, matchedBy, patternTurn, settled, stepOf, counted, clockOf, iterate, ranOf}
+use Rattle.rules.specs.Step.{eventAt, turned, counterTurn, catchers, matchedBy, patternTurn, settled, stepOf, reported, clockOf, ranOf}
+use Rattle.basics.specs.Iterate.{iterate}
 use Rattle.rules.specs.Access.{afterRead, masterWritten, configWritten, portCommanded, counterCommanded, writtenOf}
-use Rattle.rules.specs.Events.{isX, isW, isR, isP, isT, isK, writeDone, readDone, outsideSet, pinsDone, clocksDone, acknowledgeDone, ieiDone, doneOf, outcomeOf, eventOf}
-use Rattle.theorems.proofs.Tests.{by-test}
+use Rattle.rules.specs.Events.{isX, isW, isR, isP, isT, isK, writeEffect, readEffect, outsideSet, pinsEffect, clocksEffect, acknowledgeEffect, ieiEffect, effectOf, outcomeOf, eventOf}
+use Rattle.basics.proofs.Tests.{by-test}
 use Rattle.theorems.proofs.Refusals.{ways}
 
 -- the record with other parts, as many
@@ -91,11 +94,11 @@ phase-shaped : (d : Device) (v : Bool) → Shaped d → Shaped (withPhase d v)
 phase-shaped d v h = shaped d (withPhase d v) h refl refl refl refl refl
 
 pub clock-shaped : (s : Ran) → Shaped (s .device) → Shaped (clockOf s .device)
-unfolding clockOf counted
+unfolding clockOf reported
 clock-shaped s h =
     let d = s .device in
-    let stepped = counted (s .terminals) (stepOf true d (withPhase d false)) in
-    let flipped : Ran = record { device = withPhase d true; terminals = s .terminals } in
+    let stepped = reported (s .report) (stepOf true d (withPhase d false)) in
+    let flipped : Ran = record { device = withPhase d true; report = s .report } in
     by-test (λ (r : Ran). Shaped (r .device)) (reset d) s (cond (d .phase) stepped flipped) (λ _. h)
     (λ _.
     by-test (λ (r : Ran). Shaped (r .device)) (d .phase) stepped flipped
@@ -108,7 +111,7 @@ clocks-shaped (suc n) s h = clock-shaped (iterate n clockOf s) (clocks-shaped n 
 
 pub ran-shaped : (n : ℕ) (d : Device) → Shaped d → Shaped (ranOf n d .device)
 unfolding ranOf
-ran-shaped n d h = clocks-shaped n (record { device = d; terminals = 0 ∷ 0 ∷ 0 ∷ [] }) h
+ran-shaped n d h = clocks-shaped n (record { device = d; report = noReport }) h
 
 -- ---- the other events
 module _ (d : Device) (h : Shaped d) where
@@ -136,27 +139,9 @@ module _ (d : Device) (h : Shaped d) where
   written-shaped (Mask p) b = pattern-shaped d h p _
   written-shaped Absent b = h
 
-  read-shaped : (k : Kind) → Shaped (afterRead d k)
+  read-shaped : (a : ℕ) → Shaped (afterRead d a)
   unfolding afterRead
-  read-shaped Master = h
-  read-shaped Config = h
-  read-shaped (Vector v) = h
-  read-shaped (Polarity p) = h
-  read-shaped (Direction p) = h
-  read-shaped (Special p) = h
-  read-shaped (PortCommand p) = h
-  read-shaped (CounterCommand i) = h
-  read-shaped (Data p) = h
-  read-shaped (Current i high) = by-test Shaped high d (withCounter d i (thawed (counterAt d i))) (λ _. h) (λ _. counter-shaped d h i _)
-  read-shaped (Constant i high) = h
-  read-shaped (CounterMode i) = h
-  read-shaped CurrentVector = h
-  read-shaped (PortMode p) = h
-  read-shaped (Handshake p) = h
-  read-shaped (PatternPolarity p) = h
-  read-shaped (Transition p) = h
-  read-shaped (Mask p) = h
-  read-shaped Absent = h
+  read-shaped a = by-test Shaped (within 0x10 0x15 a && bit a 0) _ d (λ _. counter-shaped d h _ _) (λ _. h)
 
   outside-shaped : (a b c : ℕ) → Shaped (outsideSet d a b c)
   unfolding outsideSet
@@ -166,26 +151,26 @@ module _ (d : Device) (h : Shaped d) where
   unfolding acknowledged
   acknowledged-shaped = source-shaped d h _ _
 
-  done-shaped : (e : Event) → Shaped (doneOf d e .device)
-  unfolding doneOf writeDone readDone pinsDone clocksDone acknowledgeDone ieiDone
-  done-shaped e =
-      by-test (λ (r : Done). Shaped (r .device)) (isX e) _ _ (λ _. reset-shaped d)
+  effect-shaped : (e : Event) → Shaped (effectOf d e .device)
+  unfolding effectOf writeEffect readEffect pinsEffect clocksEffect acknowledgeEffect ieiEffect
+  effect-shaped e =
+      by-test (λ (r : Effect). Shaped (r .device)) (isX e) _ _ (λ _. reset-shaped d)
       (λ _.
-      by-test (λ (r : Done). Shaped (r .device)) (isW e) _ _
+      by-test (λ (r : Effect). Shaped (r .device)) (isW e) _ _
       (λ _.
-      by-test (λ (r : Done). Shaped (r .device)) (reset d && not (eqb (e .a) 0)) _ _ (λ _. h)
+      by-test (λ (r : Effect). Shaped (r .device)) (reset d && not (eqb (e .a) 0)) _ _ (λ _. h)
       (λ _. step-shaped false d _ (written-shaped (kindOf (e .a)) (e .b))))
       (λ _.
-      by-test (λ (r : Done). Shaped (r .device)) (isR e) _ _
-      (λ _. by-test (λ (r : Done). Shaped (r .device)) (reset d && not (eqb (e .a) 0)) _ _ (λ _. h) (λ _. read-shaped (kindOf (e .a))))
+      by-test (λ (r : Effect). Shaped (r .device)) (isR e) _ _
+      (λ _. by-test (λ (r : Effect). Shaped (r .device)) (reset d && not (eqb (e .a) 0)) _ _ (λ _. h) (λ _. read-shaped (e .a)))
       (λ _.
-      by-test (λ (r : Done). Shaped (r .device)) (isP e) _ _ (λ _. step-shaped false d _ (outside-shaped (e .a) (e .b) (e .c)))
+      by-test (λ (r : Effect). Shaped (r .device)) (isP e) _ _ (λ _. step-shaped false d _ (outside-shaped (e .a) (e .b) (e .c)))
       (λ _.
-      by-test (λ (r : Done). Shaped (r .device)) (isT e) _ _ (λ _. ran-shaped (e .a) d h)
+      by-test (λ (r : Effect). Shaped (r .device)) (isT e) _ _ (λ _. ran-shaped (e .a) d h)
       (λ _.
-      by-test (λ (r : Done). Shaped (r .device)) (isK e) _ _ (λ _. acknowledged-shaped)
+      by-test (λ (r : Effect). Shaped (r .device)) (isK e) _ _ (λ _. acknowledged-shaped)
       (λ _. shaped d (withIei d _) h refl refl refl refl refl))))))
 
   pub event-shaped : (e : Event) → Shaped (eventOf d e .device)
   unfolding outcomeOf
-  event-shaped e = ways d e (λ (o : Outcome). Shaped (o .device)) (λ _. h) (λ _. done-shaped e) (λ _. h)
+  event-shaped e = ways d e (λ (o : Outcome). Shaped (o .device)) (λ _. h) (λ _. effect-shaped e) (λ _. h)

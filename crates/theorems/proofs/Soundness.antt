@@ -10,13 +10,14 @@ use Rattle.rules.specs.declared.Event.{Event}
 use Rattle.rules.specs.declared.Outcome.{Outcome}
 use Rattle.rules.specs.declared.Ran.{Ran}
 use Rattle.rules.specs.Record.{freshOf, resetOf}
-use Rattle.rules.specs.Step.{clockOf, iterate, ranOf}
+use Rattle.rules.specs.Step.{clockOf, ranOf}
+use Rattle.basics.specs.Iterate.{iterate}
 use Rattle.rules.specs.Events.{outcomeOf, eventOf}
 use Rattle.rules.specs.Sound.{soundOf}
-use Rattle.theorems.proofs.Tests.{not-so}
+use Rattle.basics.proofs.Tests.{not-so}
 use Rattle.theorems.proofs.Clauses.{sound-parts, parts-sound}
 use Rattle.theorems.proofs.Stepless.{reset-sound}
-use Rattle.theorems.proofs.Accepted.{clock-parts, clocks-parts, ran-parts, done-parts}
+use Rattle.theorems.proofs.Accepted.{clock-parts, clocks-parts, ran-parts, effect-parts}
 use Rattle.theorems.proofs.Refusals.{ways, code-is, code-9}
 
 -- the fresh device is sound
@@ -38,7 +39,7 @@ ran-sound n d h = parts-sound (ranOf n d .device) (ran-parts n d (sound-parts d 
 pub event-sound : (d : Device) (e : Event) → soundOf d ≡ true → soundOf (eventOf d e .device) ≡ true
 unfolding outcomeOf
 event-sound d e h =
-    ways d e (λ (o : Outcome). soundOf (o .device) ≡ true) (λ _. h) (λ z. parts-sound _ (done-parts d e z (sound-parts d h))) (λ _. h)
+    ways d e (λ (o : Outcome). soundOf (o .device) ≡ true) (λ _. h) (λ z. parts-sound _ (effect-parts d e z (sound-parts d h))) (λ _. h)
 
 -- any events, one after another
 abbrev pub after : Device → List Event → Device

@@ -1,23 +1,23 @@
 -- What changes a sound record without a step keeps it sound: a read, an acknowledge, IEI, the phase; and a reset leaves a sound record.
 -- Assumes nothing.
-use Prim.Native.Nat.{ℕ, _<_}
+use Prim.Native.Nat.{ℕ, _-_, _/_, _<_}
 use mathlib.Core.Path.{_≡_, refl, sym, ap, ap₂, subst, _∙_}
-use mathlib.Core.Bool.{Bool, true, false, cond, So}
+use mathlib.Core.Bool.{Bool, true, false, _&&_, cond, So}
 use lib.Dec.{eqb}
 use Rattle.rules.specs.declared.Counter.{Counter}
 use Rattle.rules.specs.declared.Device.{Device}
-use Rattle.rules.specs.declared.Kind.{Kind}
-use Rattle.rules.specs.declared.Kind.the-variants.{Master, Config, Vector, Polarity, Direction, Special, PortCommand, CounterCommand, Data, Current, Constant, CounterMode, CurrentVector, PortMode, Handshake, PatternPolarity, Transition, Mask, Absent}
-use Rattle.rules.specs.Byte.{every}
-use Rattle.rules.specs.Record.{portAt, patternAt, counterAt, sourceAt, idle, withCounter, withIei, withPhase, resetOf}
-use Rattle.rules.specs.Registers.{reset, portEnabled, withIus}
+use Rattle.basics.specs.Signs.{within}
+use Rattle.basics.specs.Byte.{bit, every}
+use Rattle.rules.specs.Record.{portAt, patternAt, counterAt, sourceAt, idle, resetOf}
+use Rattle.rules.specs.With.{withCounter, withIei, withPhase, withIus}
+use Rattle.rules.specs.Registers.{reset, portEnabled}
 use Rattle.rules.specs.Counters.{outputOf, thawed}
 use Rattle.rules.specs.PortData.{catches, catchesAt, standing, valueAt, pinsOf, pathOf, pinsAt, pathAt}
 use Rattle.rules.specs.Interrupts.{firstOf, first, requests, requester, acknowledged}
 use Rattle.rules.specs.Access.{afterRead}
 use Rattle.rules.specs.Sound.{pmfOnly, catcherOnly, catcherSet, soundPort, soundPortAt}
-use Rattle.theorems.proofs.Tests.{never, by-test}
-use Rattle.theorems.proofs.Places.{each2, each3, set-keeps}
+use Rattle.basics.proofs.Tests.{never, by-test}
+use Rattle.basics.proofs.Places.{each2, each3, set-keeps}
 use Rattle.theorems.proofs.Parts.{Cleared, Base, Sound}
 use Rattle.theorems.proofs.CounterLaws.{thawed-sound}
 use Rattle.theorems.proofs.SourceLaws.{ius-sound}
@@ -71,28 +71,9 @@ module _ (d : Device) (i : ℕ) where
         patterns = h .patterns;
       }
 
-pub read-sound : (d : Device) → reset d ≡ false → Sound d → (k : Kind) → Sound (afterRead d k)
+pub read-sound : (d : Device) → reset d ≡ false → Sound d → (a : ℕ) → Sound (afterRead d a)
 unfolding afterRead
-read-sound d z h Master = h
-read-sound d z h Config = h
-read-sound d z h (Vector v) = h
-read-sound d z h (Polarity p) = h
-read-sound d z h (Direction p) = h
-read-sound d z h (Special p) = h
-read-sound d z h (PortCommand p) = h
-read-sound d z h (CounterCommand i) = h
-read-sound d z h (Data p) = h
-read-sound d z h (Current i high) =
-    by-test Sound high d (withCounter d i (thawed (counterAt d i))) (λ _. h) (λ _. thaw-sound d i z h)
-read-sound d z h (Constant i high) = h
-read-sound d z h (CounterMode i) = h
-read-sound d z h CurrentVector = h
-read-sound d z h (PortMode p) = h
-read-sound d z h (Handshake p) = h
-read-sound d z h (PatternPolarity p) = h
-read-sound d z h (Transition p) = h
-read-sound d z h (Mask p) = h
-read-sound d z h Absent = h
+read-sound d z h a = by-test Sound (within 0x10 0x15 a && bit a 0) _ d (λ _. thaw-sound d ((a - 0x10) / 2) z h) (λ _. h)
 
 -- ---- an acknowledge: under RESET there is no requester
 no-requester : (d : Device) → Cleared d → requester d ≡ 5

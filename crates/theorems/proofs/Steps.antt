@@ -10,16 +10,17 @@ use Rattle.rules.specs.declared.Pattern.{Pattern}
 use Rattle.rules.specs.declared.Device.{Device}
 use Rattle.rules.specs.declared.Counted.{Counted}
 use Rattle.rules.specs.declared.Link.{Link}
-use Rattle.rules.specs.Record.{portAt, patternAt, counterAt, sourceAt, bare, blank, ofPort, ofCounter, withPattern, withCounter, withSource}
+use Rattle.rules.specs.Record.{portAt, patternAt, counterAt, sourceAt, bare, blank, ofPort, ofCounter}
+use Rattle.rules.specs.With.{withPattern, withCounter, withSource, withPmf}
 use Rattle.rules.specs.Registers.{portEnabled, counterOn, counterEnabled}
 use Rattle.rules.specs.PortData.{valueAt, pinsOf, pathOf, pinsAt, pathAt, seenAt}
 use Rattle.rules.specs.Counters.{unlinked, reachOf, turnOf}
-use Rattle.rules.specs.Patterns.{matchOf, withPmf}
+use Rattle.rules.specs.Patterns.{matchOf}
 use Rattle.rules.specs.Interrupts.{raisedOf}
 use Rattle.rules.specs.Step.{linesAt, eventAt, turned, counterTurn, caughtAt, catchers, matchedBy, patternTurn, settled, stepOf}
 use Rattle.rules.specs.Sound.{pmfOnly, soundPortAt}
-use Rattle.theorems.proofs.Tests.{never, by-test}
-use Rattle.theorems.proofs.Places.{each2, each3, set-keeps, set-gives}
+use Rattle.basics.proofs.Tests.{never, by-test}
+use Rattle.basics.proofs.Places.{each2, each3, set-keeps, set-gives}
 use Rattle.theorems.proofs.Parts.{CounterSound, Cleared, Base, Sound}
 use Rattle.theorems.proofs.CounterLaws.{turn-sound, turn-off}
 use Rattle.theorems.proofs.SourceLaws.{raised-sound}

@@ -10,9 +10,10 @@ use Rattle.rules.specs.declared.Counter.{Counter}
 use Rattle.rules.specs.declared.Port.{Port}
 use Rattle.rules.specs.declared.Pattern.{Pattern}
 use Rattle.rules.specs.declared.Device.{Device}
-use Rattle.rules.specs.Record.{patternAt, counterAt, sourceAt, quiet, idle, bare, blank, withPorts, withPattern, withCounter, withSource}
+use Rattle.rules.specs.Record.{patternAt, counterAt, sourceAt, quiet, idle, bare, blank}
+use Rattle.rules.specs.With.{withPorts, withPattern, withCounter, withSource}
 use Rattle.rules.specs.Registers.{counterEnabled, laterPortMode}
-use Rattle.theorems.proofs.Places.{set-keeps}
+use Rattle.basics.proofs.Places.{set-keeps}
 use Rattle.theorems.proofs.Parts.{SourceSound, CounterSound, FourBits, Cleared, Base}
 
 module _ (d : Device) where

@@ -12,18 +12,20 @@ use Rattle.rules.specs.declared.Port.{Port}
 use Rattle.rules.specs.declared.Pattern.{Pattern}
 use Rattle.rules.specs.declared.Device.{Device}
 use Rattle.rules.specs.declared.Kind.{Kind}
-use Rattle.rules.specs.declared.Kind.the-variants.{Master, Config, Vector, Polarity, Direction, Special, PortCommand, CounterCommand, Data, Current, Constant, CounterMode, CurrentVector, PortMode, Handshake, PatternPolarity, Transition, Mask, Absent}
-use Rattle.rules.specs.Byte.{bit, withByte}
-use Rattle.rules.specs.Record.{portAt, patternAt, counterAt, sourceAt, quiet, idle, bare, blank, ofPort, ofCounter, withMaster, withVector, withPort, withPattern, withCounter, resetOf}
-use Rattle.rules.specs.Registers.{reset, counterOn, counterEnabled, kept, commanded, later, laterConfig, laterPortMode, laterCounterMode}
+use Rattle.rules.specs.declared.Kind.the-variants.{Master, Config, Vector, Polarity, Direction, Special, PortCommand, CounterCommand}
+use Rattle.rules.specs.declared.Kind.the-variants.{Data, Current, Constant, CounterMode, CurrentVector, PortMode, Handshake, PatternPolarity, Transition, Mask, Absent}
+use Rattle.basics.specs.Byte.{bit, withByte}
+use Rattle.rules.specs.Record.{portAt, patternAt, counterAt, sourceAt, quiet, idle, bare, blank, ofPort, ofCounter, resetOf}
+use Rattle.rules.specs.With.{withMaster, withVector, withPort, withPattern, withCounter, withIoe, withPolarity, withDirection, withSpecial, withConstant, withMode, withOutside}
+use Rattle.rules.specs.Registers.{reset, counterOn, counterEnabled, kept, commanded, laterConfig, laterPortMode, laterCounterMode}
 use Rattle.rules.specs.Counters.{commandedBy}
-use Rattle.rules.specs.Patterns.{withIoe}
 use Rattle.rules.specs.PortData.{writtenData}
-use Rattle.rules.specs.Access.{masterWritten, configWritten, portCommanded, counterCommanded, withPolarity, withDirection, withSpecial, withConstant, withMode, writtenOf}
-use Rattle.rules.specs.Events.{withOutside, outsideSet}
-use Rattle.theorems.proofs.Tests.{never, by-test}
-use Rattle.theorems.proofs.Places.{each2, each3, each5, set-keeps}
+use Rattle.rules.specs.Access.{masterWritten, configWritten, portCommanded, counterCommanded, writtenOf}
+use Rattle.rules.specs.Events.{outsideSet}
+use Rattle.basics.proofs.Tests.{never, by-test}
+use Rattle.basics.proofs.Places.{each2, each3, each5, set-keeps}
 use Rattle.theorems.proofs.Parts.{SourceSound, CounterSound, FourBits, Cleared, Base}
+use Rattle.theorems.proofs.Addresses.{laterKind}
 use Rattle.theorems.proofs.CounterLaws.{commanded-sound, enabled-sound, constant-sound, mode-sound}
 use Rattle.theorems.proofs.SourceLaws.{commanded-source}
 use Rattle.theorems.proofs.PortLaws.{kept-four, polarity-four, direction-four, special-four, outside-four, data-four}
@@ -156,8 +158,8 @@ module _ (d : Device) (h : Base d) (z : reset d ≡ false) where
       (counter-base i (commandedBy (counterEnabled d i) b (counterAt d i)) (commanded-sound b (counterAt d i)))
       (commanded-source (sourceAt d (ofCounter i)) (b / 32)) (awake z)
 
-  pub written-base : (k : Kind) (b : ℕ) → later k b ≡ false → Base (writtenOf d k b)
-  unfolding writtenOf later
+  pub written-base : (k : Kind) (b : ℕ) → laterKind k b ≡ false → Base (writtenOf d k b)
+  unfolding writtenOf
   written-base Master b l = master-base d b h
   written-base Config b l = config-base b l
   written-base (Vector v) b l = vector-base v b

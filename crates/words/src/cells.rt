@@ -1,15 +1,25 @@
-// Labels, and names with their bits; bits and numbers, each in a column of twelve bytes.
+// A byte's bits; labels, and names with their bits; what stands in a column of twelve bytes.
 ghost use mathlib.Core.Path.{_≡_};
+ghost use mathlib.Core.Bool.{cond};
 ghost use mathlib.Core.List.{[]};
 ghost use Prim.Native.Nat.{_<_};
 ghost use lib.ListN.{getD};
+ghost use Rattle.basics.specs.Byte.{bit as bitOf};
 ghost use Rattle.texts.specs.Kept.{noText, typed};
-ghost use Rattle.words.specs.Cells.{bitCell, yesCell, byteCell, placed, numberCell};
+ghost use Rattle.words.specs.Cells.{bitCell, yesCell, byteCell, digitOrSpace, numberCell};
 ghost use Rattle.words.specs.Shown.{named as namedOf};
 use phrases::word;
 use texts::Text;
 use texts::glyph;
 use texts::push;
+
+// Dk of a byte.
+pub fn bit(x: u8, k: u8) -> bool
+    requires { ⌜ k < 8 ⌝ }
+    ensures { λ r. ⌜ r ≡ bitOf x k ⌝ }
+{
+    (x >> k) % 2 == 1
+}
 
 // The label at a row's place in a table, on a new line; beyond the table none.
 pub fn label(rows: &[[u8; 16]], row: usize) -> Text
@@ -33,22 +43,26 @@ pub fn named(t: Text, w: &[u8], f: bool) -> Text
     push(u, b'0')
 }
 
+// One of two words.
+pub fn either(t: Text, f: bool, yes: &[u8; 12], no: &[u8; 12]) -> Text
+    ensures { λ r. ⌜ r ≡ typed t (cond f (now (yes .entry)) (now (no .entry))) ⌝ }
+{
+    if f {
+        return word(t, yes);
+    }
+    word(t, no)
+}
+
 pub fn bit_cell(t: Text, f: bool) -> Text
     ensures { λ r. ⌜ r ≡ typed t (bitCell f) ⌝ }
 {
-    if f {
-        return word(t, b"           1");
-    }
-    word(t, b"           0")
+    either(t, f, b"           1", b"           0")
 }
 
 pub fn yes_cell(t: Text, f: bool) -> Text
     ensures { λ r. ⌜ r ≡ typed t (yesCell f) ⌝ }
 {
-    if f {
-        return word(t, b"         yes");
-    }
-    word(t, b"          no")
+    either(t, f, b"         yes", b"          no")
 }
 
 pub fn byte_cell(t: Text, n: u8) -> Text
@@ -61,12 +75,12 @@ pub fn byte_cell(t: Text, n: u8) -> Text
 // The digit at the place of a power of ten, or a space.
 fn digit(p: u32, n: u32) -> u8
     requires { ⌜ 0 < p ⌝ }
-    ensures { λ r. ⌜ r ≡ placed p n ⌝ }
+    ensures { λ r. ⌜ r ≡ digitOrSpace p n ⌝ }
 {
     if n < p {
         return b' ';
     }
-    48 + (n / p % 10) as u8
+    b'0' + (n / p % 10) as u8
 }
 
 pub fn number_cell(t: Text, n: u32) -> Text
@@ -76,5 +90,5 @@ pub fn number_cell(t: Text, n: u32) -> Text
     let t3 = push(t4, digit(1000, n));
     let t2 = push(t3, digit(100, n));
     let t1 = push(t2, digit(10, n));
-    push(t1, 48 + (n % 10) as u8)
+    push(t1, b'0' + (n % 10) as u8)
 }

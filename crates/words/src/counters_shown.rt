@@ -2,8 +2,10 @@
 ghost use mathlib.Core.Path.{_≡_};
 ghost use Prim.Native.Nat.{_<_};
 ghost use Rattle.texts.specs.Kept.{noText, typed};
-ghost use Rattle.words.specs.Shown.{modeCell, againCell, countsCell, countShown, halfCell, frozenCell, counterCell, counterColumn, counterLine};
+ghost use Rattle.words.specs.Shown.{modeCell, countShown, frozenCell, counterCell, counterColumn, counterLine};
+use crate::cells::bit;
 use crate::cells::bit_cell;
+use crate::cells::either;
 use crate::cells::label;
 use crate::cells::number_cell;
 use crate::cells::yes_cell;
@@ -13,7 +15,23 @@ use rules::Device;
 use texts::Text;
 use texts::push;
 
-const LABELS: [[u8; 16]; 15] = [
+// The bits of a mode.
+const CONTINUOUS: u8 = 7;
+
+const OUTPUT: u8 = 6;
+
+const COUNT_INPUT: u8 = 5;
+
+const TRIGGER_INPUT: u8 = 4;
+
+const GATE_INPUT: u8 = 3;
+
+const RETRIGGER: u8 = 2;
+
+// How many facts a counter has.
+pub const ROWS: usize = 15;
+
+const LABELS: [[u8; 16]; ROWS] = [
     *b"enabled         ",
     *b"mode            ",
     *b"                ",
@@ -41,24 +59,6 @@ fn mode_cell(t: Text, mode: u8) -> Text
     }
 }
 
-fn again_cell(t: Text, continuous: bool) -> Text
-    ensures { λ r. ⌜ r ≡ typed t (againCell continuous) ⌝ }
-{
-    if continuous {
-        return word(t, b"  continuous");
-    }
-    word(t, b"      single")
-}
-
-fn counts_cell(t: Text, input: bool) -> Text
-    ensures { λ r. ⌜ r ≡ typed t (countsCell input) ⌝ }
-{
-    if input {
-        return word(t, b"   its input");
-    }
-    word(t, b"      clocks")
-}
-
 // The count; of a running counter 0 is 65,536.
 fn count_shown(c: Counter) -> u32
     ensures { λ r. ⌜ r ≡ countShown c ⌝ }
@@ -67,15 +67,6 @@ fn count_shown(c: Counter) -> u32
         return 65536;
     }
     c.count as u32
-}
-
-fn half_cell(t: Text, second: bool) -> Text
-    ensures { λ r. ⌜ r ≡ typed t (halfCell second) ⌝ }
-{
-    if second {
-        return word(t, b"      second");
-    }
-    word(t, b"       first")
 }
 
 fn frozen_cell(t: Text, rcc: bool, n: u16) -> Text
@@ -93,17 +84,22 @@ fn counter_cell(t: Text, enabled: bool, c: Counter, row: usize) -> Text
     match row {
         0 => yes_cell(t, enabled),
         1 => mode_cell(t, c.mode),
-        2 => again_cell(t, c.mode / 128 % 2 == 1),
-        3 => counts_cell(t, c.mode / 32 % 2 == 1),
-        4 => yes_cell(t, c.mode / 16 % 2 == 1),
-        5 => yes_cell(t, c.mode / 8 % 2 == 1),
-        6 => yes_cell(t, c.mode / 64 % 2 == 1),
-        7 => yes_cell(t, c.mode / 4 % 2 == 1),
+        2 => either(t, bit(c.mode, CONTINUOUS), b"  continuous", b"      single"),
+        3 => either(
+            t,
+            bit(c.mode, COUNT_INPUT),
+            b"   its input",
+            b"      clocks",
+        ),
+        4 => yes_cell(t, bit(c.mode, TRIGGER_INPUT)),
+        5 => yes_cell(t, bit(c.mode, GATE_INPUT)),
+        6 => yes_cell(t, bit(c.mode, OUTPUT)),
+        7 => yes_cell(t, bit(c.mode, RETRIGGER)),
         8 => number_cell(t, c.constant as u32),
         9 => number_cell(t, count_shown(c)),
         10 => bit_cell(t, c.gcb),
         11 => bit_cell(t, c.cip),
-        12 => half_cell(t, c.half),
+        12 => either(t, c.half, b"      second", b"       first"),
         13 => frozen_cell(t, c.rcc, c.frozen),
         _ => bit_cell(t, counters::output(c)),
     }
@@ -115,7 +111,7 @@ fn counter_column(t: Text, d: Device, i: usize, row: usize) -> Text
     ensures { λ r. ⌜ r ≡ typed t (counterColumn d i row) ⌝ }
 {
     let c = d.counters[i];
-    counter_cell(t, device::counter_on(d.config, i), c, row)
+    counter_cell(t, levels::counter_on(d.config, i), c, row)
 }
 
 pub fn counter_line(d: Device, row: usize) -> Text

@@ -1,7 +1,8 @@
 // The lines that have no columns.
 ghost use mathlib.Core.Path.{_≡_};
 ghost use Rattle.texts.specs.Kept.{noText, typed};
-ghost use Rattle.words.specs.Shown.{masterLine, linkLine, levelsLine, requestLine, giveLabel, acknowledgeLine};
+ghost use Rattle.words.specs.Shown.{masterLine, linkLine, levelsLine, requestLine, acknowledgeLine};
+use crate::cells::bit;
 use crate::cells::byte_cell;
 use crate::cells::named;
 use phrases::word;
@@ -9,18 +10,34 @@ use rules::Device;
 use texts::Text;
 use texts::push;
 
-// The master interrupt register's bits by name.
+// The bits of the master interrupt register.
+const MIE: u8 = 7;
+
+const DLC: u8 = 6;
+
+const NV: u8 = 5;
+
+const VIS_A: u8 = 4;
+
+const VIS_B: u8 = 3;
+
+const VIS_CT: u8 = 2;
+
+const RJA: u8 = 1;
+
+const RESET: u8 = 0;
+
 pub fn master_line(m: u8) -> Text
     ensures { λ r. ⌜ r ≡ typed noText (masterLine m) ⌝ }
 {
-    let mie = named(texts::no_text(), b"master          MIE ", m / 128 % 2 == 1);
-    let dlc = named(mie, b"  DLC ", m / 64 % 2 == 1);
-    let nv = named(dlc, b"  NV ", m / 32 % 2 == 1);
-    let vis_a = named(nv, b"  VIS A ", m / 16 % 2 == 1);
-    let vis_b = named(vis_a, b"  VIS B ", m / 8 % 2 == 1);
-    let vis_ct = named(vis_b, b"  VIS CT ", m / 4 % 2 == 1);
-    let rja = named(vis_ct, b"  RJA ", m / 2 % 2 == 1);
-    push(named(rja, b"  RESET ", m % 2 == 1), b'\n')
+    let mie = named(texts::no_text(), b"master          MIE ", bit(m, MIE));
+    let dlc = named(mie, b"  DLC ", bit(m, DLC));
+    let nv = named(dlc, b"  NV ", bit(m, NV));
+    let vis_a = named(nv, b"  VIS A ", bit(m, VIS_A));
+    let vis_b = named(vis_a, b"  VIS B ", bit(m, VIS_B));
+    let vis_ct = named(vis_b, b"  VIS CT ", bit(m, VIS_CT));
+    let rja = named(vis_ct, b"  RJA ", bit(m, RJA));
+    push(named(rja, b"  RESET ", bit(m, RESET)), b'\n')
 }
 
 // What LC makes of CT1's output.
@@ -62,19 +79,12 @@ pub fn request_line(k: usize) -> Text
     }
 }
 
-fn give_label() -> Text
-    ensures { λ r. ⌜ r ≡ typed noText giveLabel ⌝ }
-{
-    word(texts::no_text(), b"K would give    ")
-}
-
 pub fn acknowledge_line(d: Device) -> Text
     ensures { λ r. ⌜ r ≡ typed noText (acknowledgeLine d) ⌝ }
 {
-    let k = interrupts::requester_of(d);
-    if k < 5 {
-        let value = interrupts::acknowledge(d);
-        return push(byte_cell(give_label(), value), b'\n');
+    let t = word(texts::no_text(), b"K would give    ");
+    if interrupts::requester_of(d) < 5 {
+        return push(byte_cell(t, interrupts::acknowledge(d)), b'\n');
     }
-    word(texts::no_text(), b"K would give    code 6\n")
+    word(t, b"code 6\n")
 }

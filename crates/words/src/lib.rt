@@ -6,7 +6,5 @@ mod ports_shown;
 mod shown;
 mod sources_shown;
 
+pub use shown::LINES;
 pub use shown::line;
-
-// How many lines a device has.
-pub const LINES: usize = 40;

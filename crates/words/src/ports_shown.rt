@@ -13,7 +13,12 @@ use rules::Pattern;
 use texts::Text;
 use texts::push;
 
-const PORT_LABELS: [[u8; 16]; 7] = [
+// How many facts a port has, and a pattern.
+pub const PORT_ROWS: usize = 7;
+
+pub const PATTERN_ROWS: usize = 5;
+
+const PORT_LABELS: [[u8; 16]; PORT_ROWS] = [
     *b"enabled         ",
     *b"direction       ",
     *b"polarity        ",
@@ -29,12 +34,12 @@ fn port_cell(t: Text, d: Device, p: usize, row: usize) -> Text
 {
     let q = d.ports[p];
     match row {
-        0 => yes_cell(t, device::port_enabled(d, p)),
+        0 => yes_cell(t, levels::port_enabled(d, p)),
         1 => byte_cell(t, q.direction),
         2 => byte_cell(t, q.polarity),
         3 => byte_cell(t, q.special),
         4 => byte_cell(t, q.output),
-        5 => byte_cell(t, device::pins_at(d, p)),
+        5 => byte_cell(t, levels::pins_at(d, p)),
         _ => byte_cell(t, q.catcher),
     }
 }
@@ -48,7 +53,7 @@ pub fn port_line(d: Device, row: usize) -> Text
     push(port_cell(b, d, 2, row), b'\n')
 }
 
-const PATTERN_LABELS: [[u8; 16]; 5] = [
+const PATTERN_LABELS: [[u8; 16]; PATTERN_ROWS] = [
     *b"pattern         ",
     *b"  polarity      ",
     *b"  transition    ",

@@ -2,18 +2,39 @@
 ghost use mathlib.Core.Path.{_≡_};
 ghost use Rattle.texts.specs.Kept.{noText, typed};
 ghost use Rattle.words.specs.Shown.{headLine, tailLine, shownLine};
+use crate::counters_shown::ROWS as COUNTER_ROWS;
 use crate::counters_shown::counter_line;
 use crate::heads::acknowledge_line;
 use crate::heads::levels_line;
 use crate::heads::link_line;
 use crate::heads::master_line;
 use crate::heads::request_line;
+use crate::ports_shown::PATTERN_ROWS;
+use crate::ports_shown::PORT_ROWS;
 use crate::ports_shown::pattern_line;
 use crate::ports_shown::port_line;
+use crate::sources_shown::ROWS as SOURCE_ROWS;
 use crate::sources_shown::source_line;
 use phrases::word;
 use rules::Device;
 use texts::Text;
+
+// The first line of each part, and how many lines there are.
+const PORTS: usize = 3;
+
+const PATTERNS: usize = PORTS + PORT_ROWS;
+
+const COUNTER_HEAD: usize = PATTERNS + PATTERN_ROWS;
+
+const COUNTERS: usize = COUNTER_HEAD + 1;
+
+const SOURCE_HEAD: usize = COUNTERS + COUNTER_ROWS;
+
+const SOURCES: usize = SOURCE_HEAD + 1;
+
+const TAIL: usize = SOURCES + SOURCE_ROWS;
+
+pub const LINES: usize = TAIL + 3;
 
 // The lines above the ports' columns.
 fn head_line(d: Device, n: usize) -> Text
@@ -44,32 +65,32 @@ fn tail_line(d: Device, n: usize) -> Text
 pub fn line(d: Device, n: usize) -> Text
     ensures { λ r. ⌜ r ≡ typed noText (shownLine d n) ⌝ }
 {
-    if n < 3 {
+    if n < PORTS {
         return head_line(d, n);
     }
-    if n < 10 {
-        return port_line(d, n - 3);
+    if n < PATTERNS {
+        return port_line(d, n - PORTS);
     }
-    if n < 15 {
-        return pattern_line(d, n - 10);
+    if n < COUNTER_HEAD {
+        return pattern_line(d, n - PATTERNS);
     }
-    if n < 16 {
+    if n < COUNTERS {
         return word(
             texts::no_text(),
             b"counter                  CT1         CT2         CT3\n",
         );
     }
-    if n < 31 {
-        return counter_line(d, n - 16);
+    if n < SOURCE_HEAD {
+        return counter_line(d, n - COUNTERS);
     }
-    if n < 32 {
+    if n < SOURCES {
         return word(
             texts::no_text(),
             b"source                   CT3           A         CT2           B         CT1\n",
         );
     }
-    if n < 37 {
-        return source_line(d, n - 32);
+    if n < TAIL {
+        return source_line(d, n - SOURCES);
     }
-    tail_line(d, n - 37)
+    tail_line(d, n - TAIL)
 }

@@ -10,7 +10,10 @@ use rules::Source;
 use texts::Text;
 use texts::push;
 
-const LABELS: [[u8; 16]; 5] = [
+// How many facts a source has.
+pub const ROWS: usize = 5;
+
+const LABELS: [[u8; 16]; ROWS] = [
     *b"IE              ",
     *b"IP              ",
     *b"IUS             ",
@@ -22,7 +25,7 @@ fn source_cell(t: Text, s: Source, row: usize) -> Text
     ensures { λ r. ⌜ r ≡ typed t (sourceCell s row) ⌝ }
 {
     let flags = [s.ie, s.ip, s.ius, s.err, s.hidden];
-    if row < 5 {
+    if row < ROWS {
         return bit_cell(t, flags[row]);
     }
     bit_cell(t, false)

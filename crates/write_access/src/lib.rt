@@ -1,20 +1,27 @@
 // The direct effect of a write to the register at an address.
+mod data;
+
 ghost use mathlib.Core.Path.{_≡_};
 ghost use Prim.Native.Nat.{_<_};
-ghost use Rattle.rules.specs.Byte.{withByte};
-ghost use Rattle.rules.specs.Record.{portAt, counterAt, withVector, withPort, withPattern, withCounter};
+ghost use Rattle.basics.specs.Byte.{withByte};
+ghost use Rattle.rules.specs.Record.{portAt, patternAt, counterAt};
+ghost use Rattle.rules.specs.With.{withVector, withPort, withPattern, withCounter, withPolarity, withDirection, withSpecial, withConstant, withMode};
+ghost use Rattle.rules.specs.With.{withPortMode, withHandshake, withPatternPolarity, withTransition, withMask};
 ghost use Rattle.rules.specs.Registers.{kindOf, kept};
+ghost use Rattle.rules.specs.Counters.{enabledBy};
 ghost use Rattle.rules.specs.PortData.{writtenData};
-ghost use Rattle.rules.specs.Access.{masterWritten, configWritten, withPolarity, withDirection, withSpecial, portCommanded, counterCommanded, withConstant, withMode, writtenOf};
+ghost use Rattle.rules.specs.Access.{masterWritten, configWritten, portCommanded, counterCommanded, writtenOf};
 ghost use Rattle.registers.specs.Place.{place, places};
+use rules::Counter;
 use rules::Device;
 use rules::Kind;
-use rules::Pattern;
+use rules::Source;
 
 fn write_master(d: Device, b: u8) -> Device
     ensures { λ r. ⌜ r ≡ masterWritten d b ⌝ }
 {
-    if b % 2 == 1 {
+    let reset = b % 2 == 1;
+    if reset {
         return record::reset(d);
     }
     let mut e = d;
@@ -22,12 +29,25 @@ fn write_master(d: Device, b: u8) -> Device
     e
 }
 
+// A counter whose enable is written.
+fn enable(v: bool, c: Counter) -> Counter
+    ensures { λ r. ⌜ r ≡ enabledBy v c ⌝ }
+{
+    if v {
+        return c;
+    }
+    let mut off = c;
+    off.cip = false;
+    off.half = false;
+    off
+}
+
 fn write_config(d: Device, b: u8) -> Device
     ensures { λ r. ⌜ r ≡ configWritten d b ⌝ }
 {
-    let c1 = counters::enable(device::counter_on(b, 0), d.counters[0]);
-    let c2 = counters::enable(device::counter_on(b, 1), d.counters[1]);
-    let c3 = counters::enable(device::counter_on(b, 2), d.counters[2]);
+    let c1 = enable(levels::counter_on(b, 0), d.counters[0]);
+    let c2 = enable(levels::counter_on(b, 1), d.counters[1]);
+    let c3 = enable(levels::counter_on(b, 2), d.counters[2]);
     let mut e = d;
     e.config = b;
     e.counters = [c1, c2, c3];
@@ -48,7 +68,7 @@ fn write_polarity(d: Device, p: usize, b: u8) -> Device
     ensures { λ r. ⌜ r ≡ withPort d p (withPolarity (portAt d p) (kept p b)) ⌝ }
 {
     let mut e = d;
-    e.ports[p].polarity = registers::keep(p, b);
+    e.ports[p].polarity = data::keep(p, b);
     e
 }
 
@@ -57,7 +77,7 @@ fn write_direction(d: Device, p: usize, b: u8) -> Device
     ensures { λ r. ⌜ r ≡ withPort d p (withDirection (portAt d p) (kept p b)) ⌝ }
 {
     let mut e = d;
-    e.ports[p].direction = registers::keep(p, b);
+    e.ports[p].direction = data::keep(p, b);
     e
 }
 
@@ -66,7 +86,7 @@ fn write_special(d: Device, p: usize, b: u8) -> Device
     ensures { λ r. ⌜ r ≡ withPort d p (withSpecial (portAt d p) (kept p b)) ⌝ }
 {
     let mut e = d;
-    e.ports[p].special = registers::keep(p, b);
+    e.ports[p].special = data::keep(p, b);
     e
 }
 
@@ -74,7 +94,7 @@ fn command_port(d: Device, p: usize, b: u8) -> Device
     requires { ⌜ p < 2 ⌝ }
     ensures { λ r. ⌜ r ≡ portCommanded d p b ⌝ }
 {
-    let k = 1 + 2 * p;
+    let k = Source::of_port(p);
     let s = sources::command(d.sources[k], b / 32);
     let mut e = d;
     e.patterns[p].ioe = b % 2 == 1;
@@ -86,9 +106,9 @@ fn command_counter(d: Device, i: usize, b: u8) -> Device
     requires { ⌜ i < 3 ⌝ }
     ensures { λ r. ⌜ r ≡ counterCommanded d i b ⌝ }
 {
-    let k = 4 - 2 * i;
+    let k = Source::of_counter(i);
     let s = sources::command(d.sources[k], b / 32);
-    let c = counters::command(device::counter_on(d.config, i), b, d.counters[i]);
+    let c = counters::command(levels::counter_on(d.config, i), b, d.counters[i]);
     let mut e = d;
     e.counters[i] = c;
     e.sources[k] = s;
@@ -99,7 +119,7 @@ fn write_data(d: Device, p: usize, b: u8) -> Device
     requires { ⌜ p < 3 ⌝ }
     ensures { λ r. ⌜ r ≡ withPort d p (writtenData (portAt d p) p b) ⌝ }
 {
-    let q = ports::put(d.ports[p], p, b);
+    let q = data::put(d.ports[p], p, b);
     let mut e = d;
     e.ports[p] = q;
     e
@@ -109,7 +129,7 @@ fn write_constant(d: Device, i: usize, high: bool, b: u8) -> Device
     requires { ⌜ i < 3 ⌝ }
     ensures { λ r. ⌜ r ≡ withCounter d i (withConstant (counterAt d i) (withByte high (counterAt d i .constant) b)) ⌝ }
 {
-    let n = bits::with_byte(high, d.counters[i].constant, b);
+    let n = basics::with_byte(high, d.counters[i].constant, b);
     let mut e = d;
     e.counters[i].constant = n;
     e
@@ -124,12 +144,48 @@ fn write_mode(d: Device, i: usize, b: u8) -> Device
     e
 }
 
-fn with_pattern(d: Device, p: usize, q: Pattern) -> Device
+fn write_port_mode(d: Device, p: usize, b: u8) -> Device
     requires { ⌜ p < 2 ⌝ }
-    ensures { λ r. ⌜ r ≡ withPattern d p q ⌝ }
+    ensures { λ r. ⌜ r ≡ withPattern d p (withPortMode (patternAt d p) b) ⌝ }
 {
     let mut e = d;
-    e.patterns[p] = q;
+    e.patterns[p].mode = b;
+    e
+}
+
+fn write_handshake(d: Device, p: usize, b: u8) -> Device
+    requires { ⌜ p < 2 ⌝ }
+    ensures { λ r. ⌜ r ≡ withPattern d p (withHandshake (patternAt d p) b) ⌝ }
+{
+    let mut e = d;
+    e.patterns[p].handshake = b;
+    e
+}
+
+fn write_pattern_polarity(d: Device, p: usize, b: u8) -> Device
+    requires { ⌜ p < 2 ⌝ }
+    ensures { λ r. ⌜ r ≡ withPattern d p (withPatternPolarity (patternAt d p) b) ⌝ }
+{
+    let mut e = d;
+    e.patterns[p].polarity = b;
+    e
+}
+
+fn write_transition(d: Device, p: usize, b: u8) -> Device
+    requires { ⌜ p < 2 ⌝ }
+    ensures { λ r. ⌜ r ≡ withPattern d p (withTransition (patternAt d p) b) ⌝ }
+{
+    let mut e = d;
+    e.patterns[p].transition = b;
+    e
+}
+
+fn write_mask(d: Device, p: usize, b: u8) -> Device
+    requires { ⌜ p < 2 ⌝ }
+    ensures { λ r. ⌜ r ≡ withPattern d p (withMask (patternAt d p) b) ⌝ }
+{
+    let mut e = d;
+    e.patterns[p].mask = b;
     e
 }
 
@@ -151,26 +207,11 @@ fn write_kind(d: Device, k: Kind, b: u8) -> Device
         Kind::Constant(i, high) => write_constant(d, i, high, b),
         Kind::CounterMode(i) => write_mode(d, i, b),
         Kind::CurrentVector => d,
-        Kind::PortMode(p) => {
-            let q = d.patterns[p];
-            with_pattern(d, p, Pattern { mode: b, ..q })
-        }
-        Kind::Handshake(p) => {
-            let q = d.patterns[p];
-            with_pattern(d, p, Pattern { handshake: b, ..q })
-        }
-        Kind::PatternPolarity(p) => {
-            let q = d.patterns[p];
-            with_pattern(d, p, Pattern { polarity: b, ..q })
-        }
-        Kind::Transition(p) => {
-            let q = d.patterns[p];
-            with_pattern(d, p, Pattern { transition: b, ..q })
-        }
-        Kind::Mask(p) => {
-            let q = d.patterns[p];
-            with_pattern(d, p, Pattern { mask: b, ..q })
-        }
+        Kind::PortMode(p) => write_port_mode(d, p, b),
+        Kind::Handshake(p) => write_handshake(d, p, b),
+        Kind::PatternPolarity(p) => write_pattern_polarity(d, p, b),
+        Kind::Transition(p) => write_transition(d, p, b),
+        Kind::Mask(p) => write_mask(d, p, b),
         Kind::Absent => d,
     }
 }

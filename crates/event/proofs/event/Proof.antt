@@ -1,20 +1,54 @@
-use mathlib.Core.Path.{sym, _∙_}
-use Rattle.event.proofs.Ways.{unsound}
+use borrow.Author.Tests.{eq-eqb, ne-eqb}
+use Rattle.rules.specs.Events.{eventOf}
 use borrow.Author.Needs.{needs}
 use Rattle.event.proofs.event.Statement.{statement}
 use Rattle.event.proofs.event.Tie as tie
 
-sound-requires : tie.Need-sound-requires
-sound-requires c κs = search needs
+code-of-requires : tie.Need-code-of-requires
+code-of-requires c κs = search needs
 
-sound-event-requires : tie.Need-sound-event-requires
-sound-event-requires c κs = sym (c .before .sound .ensures) ∙ c .if1 .taken
+unsound-requires : tie.Need-unsound-requires
+unsound-requires c κs = search needs
 
 returns : tie.Need-returns
-returns c = search needs
+unfolding eventOf
+returns c = simp (← c .before .before .code-of .ensures, eq-eqb _ _ (c .before .if1 .taken), c .unsound .ensures)
+
+effect-of-requires : tie.Need-effect-of-requires
+effect-of-requires c κs = search needs
+
+outcome-requires : tie.Need-outcome-requires
+outcome-requires c κs = search needs
 
 returns-2 : tie.Need-returns-2
-returns-2 c = unsound _ _ (sym (c .before .sound .ensures) ∙ c .if1 .left)
+unfolding eventOf
+returns-2 c =
+    let at-if2 = c .before .before in
+    simp
+    (← at-if2 .before .before .code-of .ensures, ne-eqb _ _ (at-if2 .before .if1 .left), eq-eqb _ _ (at-if2 .if2 .taken), c .before .effect-of .ensures, c .outcome .ensures)
+
+effect-requires : tie.Need-effect-requires
+effect-requires c κs = search needs
+
+outcome-requires-2 : tie.Need-outcome-requires-2
+outcome-requires-2 c κs = search needs
+
+returns-3 : tie.Need-returns-3
+unfolding eventOf
+returns-3 c =
+    let at-if2 = c .before .before in
+    simp (← at-if2 .before .before .code-of .ensures, ne-eqb _ _ (at-if2 .before .if1 .left), ne-eqb _ _ (at-if2 .if2 .left), c .before .effect .ensures, c .outcome2 .ensures)
 
 pub event-spec : {M : Type 1} → statement M
-event-spec = tie.close (tie.spec sound-requires sound-event-requires returns returns-2)
+event-spec =
+    tie.close
+    (tie.spec
+    code-of-requires
+    unsound-requires
+    returns
+    effect-of-requires
+    outcome-requires
+    returns-2
+    effect-requires
+    outcome-requires-2
+    returns-3)

@@ -20,12 +20,12 @@ ieo-requires c κs = search needs
 
 returns : tie.Need-returns
 unfolding outcomeOf answerOf
-returns c =
-    let b2 = c .before .before in
-    let b3 = b2 .before in
-    let b4 = b3 .before in
-    simp
-    (b4 .pins-at .ensures, b3 .pins-at2 .ensures, b2 .pins-at3 .ensures, c .before .int .ensures, c .ieo .ensures)
+returns c = 
+    let at-int = c .before in
+    let at-c = at-int .before in
+    let at-b = at-c .before in
+    let at-a = at-b .before in
+    simp (at-a .pins-at .ensures, at-b .pins-at2 .ensures, at-c .pins-at3 .ensures, at-int .int .ensures, c .ieo .ensures)
 
 pub outcome-spec : {M : Type 1} → statement M
 outcome-spec =

@@ -1,80 +1,66 @@
-use Rattle.image.specs.Image.{clearIn}
+use Rattle.bodies.specs.Taken.{clearIn}
 use borrow.Author.Needs.{needs}
 use Rattle.image.proofs.is_clear.Statement.{statement}
 use Rattle.image.proofs.is_clear.Tie as tie
 
-sub-registers-clear : tie.Need-sub-registers-clear
-sub-registers-clear c = search needs
+sub-clear : tie.Need-sub-clear
+sub-clear c = search needs
 
-part-registers-clear-start : tie.Need-part-registers-clear-start
-part-registers-clear-start c = search needs
+part-clear-start : tie.Need-part-clear-start
+part-clear-start c = search needs
 
-part-registers-clear-end : tie.Need-part-registers-clear-end
-part-registers-clear-end c = search needs
+part-clear-end : tie.Need-part-clear-end
+part-clear-end c = search needs
 
-registers-clear-requires : tie.Need-registers-clear-requires
-registers-clear-requires c κs = tt
+sub-clear-2 : tie.Need-sub-clear-2
+sub-clear-2 c = search needs
 
-sub-counts-clear : tie.Need-sub-counts-clear
-sub-counts-clear c = search needs
+part-clear-start-2 : tie.Need-part-clear-start-2
+part-clear-start-2 c = search needs
 
-part-counts-clear-start : tie.Need-part-counts-clear-start
-part-counts-clear-start c = search needs
+part-clear-end-2 : tie.Need-part-clear-end-2
+part-clear-end-2 c = search needs
 
-part-counts-clear-end : tie.Need-part-counts-clear-end
-part-counts-clear-end c = search needs
+sub-clear-3 : tie.Need-sub-clear-3
+sub-clear-3 c = search needs
 
-counts-clear-requires : tie.Need-counts-clear-requires
-counts-clear-requires c κs = tt
+part-clear-start-3 : tie.Need-part-clear-start-3
+part-clear-start-3 c = search needs
 
-sub-pins-clear : tie.Need-sub-pins-clear
-sub-pins-clear c = search needs
+part-clear-end-3 : tie.Need-part-clear-end-3
+part-clear-end-3 c = search needs
 
-part-pins-clear-start : tie.Need-part-pins-clear-start
-part-pins-clear-start c = search needs
+sub-clear-4 : tie.Need-sub-clear-4
+sub-clear-4 c = search needs
 
-part-pins-clear-end : tie.Need-part-pins-clear-end
-part-pins-clear-end c = search needs
+part-clear-start-4 : tie.Need-part-clear-start-4
+part-clear-start-4 c = search needs
 
-pins-clear-requires : tie.Need-pins-clear-requires
-pins-clear-requires c κs = tt
+part-clear-end-4 : tie.Need-part-clear-end-4
+part-clear-end-4 c = search needs
 
-sub-lines-clear : tie.Need-sub-lines-clear
-sub-lines-clear c = search needs
-
-part-lines-clear-start : tie.Need-part-lines-clear-start
-part-lines-clear-start c = search needs
-
-part-lines-clear-end : tie.Need-part-lines-clear-end
-part-lines-clear-end c = search needs
-
-lines-clear-requires : tie.Need-lines-clear-requires
-lines-clear-requires c κs = tt
+clear-requires : tie.Need-clear-requires
+clear-requires c κs = tt
 
 returns : tie.Need-returns
 unfolding clearIn
-returns c =
-    let p1 = c .before .before .before .before in
-    simp (c .lines-clear .ensures, c .before .before .pins-clear .ensures, p1 .counts-clear .ensures, p1 .before .before .registers-clear .ensures)
+returns c = c .clear .ensures
 
 pub is-clear-spec : {M : Type 1} → statement M
 is-clear-spec =
     tie.close
     (tie.spec
-    sub-registers-clear
-    part-registers-clear-start
-    part-registers-clear-end
-    registers-clear-requires
-    sub-counts-clear
-    part-counts-clear-start
-    part-counts-clear-end
-    counts-clear-requires
-    sub-pins-clear
-    part-pins-clear-start
-    part-pins-clear-end
-    pins-clear-requires
-    sub-lines-clear
-    part-lines-clear-start
-    part-lines-clear-end
-    lines-clear-requires
+    sub-clear
+    part-clear-start
+    part-clear-end
+    sub-clear-2
+    part-clear-start-2
+    part-clear-end-2
+    sub-clear-3
+    part-clear-start-3
+    part-clear-end-3
+    sub-clear-4
+    part-clear-start-4
+    part-clear-end-4
+    clear-requires
     returns)

@@ -1,80 +1,66 @@
-use Rattle.image.specs.Image.{deviceIn}
+use Rattle.bodies.specs.Taken.{deviceIn}
 use borrow.Author.Needs.{needs}
 use Rattle.image.proofs.read.Statement.{statement}
 use Rattle.image.proofs.read.Tie as tie
 
-sub-read-registers : tie.Need-sub-read-registers
-sub-read-registers c = search needs
+sub-device : tie.Need-sub-device
+sub-device c = search needs
 
-part-read-registers-start : tie.Need-part-read-registers-start
-part-read-registers-start c = search needs
+part-device-start : tie.Need-part-device-start
+part-device-start c = search needs
 
-part-read-registers-end : tie.Need-part-read-registers-end
-part-read-registers-end c = search needs
+part-device-end : tie.Need-part-device-end
+part-device-end c = search needs
 
-read-registers-requires : tie.Need-read-registers-requires
-read-registers-requires c κs = tt
+sub-device-2 : tie.Need-sub-device-2
+sub-device-2 c = search needs
 
-sub-read-counts : tie.Need-sub-read-counts
-sub-read-counts c = search needs
+part-device-start-2 : tie.Need-part-device-start-2
+part-device-start-2 c = search needs
 
-part-read-counts-start : tie.Need-part-read-counts-start
-part-read-counts-start c = search needs
+part-device-end-2 : tie.Need-part-device-end-2
+part-device-end-2 c = search needs
 
-part-read-counts-end : tie.Need-part-read-counts-end
-part-read-counts-end c = search needs
+sub-device-3 : tie.Need-sub-device-3
+sub-device-3 c = search needs
 
-read-counts-requires : tie.Need-read-counts-requires
-read-counts-requires c κs = tt
+part-device-start-3 : tie.Need-part-device-start-3
+part-device-start-3 c = search needs
 
-sub-read-pins : tie.Need-sub-read-pins
-sub-read-pins c = search needs
+part-device-end-3 : tie.Need-part-device-end-3
+part-device-end-3 c = search needs
 
-part-read-pins-start : tie.Need-part-read-pins-start
-part-read-pins-start c = search needs
+sub-device-4 : tie.Need-sub-device-4
+sub-device-4 c = search needs
 
-part-read-pins-end : tie.Need-part-read-pins-end
-part-read-pins-end c = search needs
+part-device-start-4 : tie.Need-part-device-start-4
+part-device-start-4 c = search needs
 
-read-pins-requires : tie.Need-read-pins-requires
-read-pins-requires c κs = tt
+part-device-end-4 : tie.Need-part-device-end-4
+part-device-end-4 c = search needs
 
-sub-read-lines : tie.Need-sub-read-lines
-sub-read-lines c = search needs
-
-part-read-lines-start : tie.Need-part-read-lines-start
-part-read-lines-start c = search needs
-
-part-read-lines-end : tie.Need-part-read-lines-end
-part-read-lines-end c = search needs
-
-read-lines-requires : tie.Need-read-lines-requires
-read-lines-requires c κs = tt
+device-requires : tie.Need-device-requires
+device-requires c κs = tt
 
 returns : tie.Need-returns
 unfolding deviceIn
-returns c =
-    let p1 = c .before .before .before .before in
-    simp (c .read-lines .ensures, c .before .before .read-pins .ensures, p1 .read-counts .ensures, p1 .before .before .read-registers .ensures)
+returns c = c .device .ensures
 
 pub read-spec : {M : Type 1} → statement M
 read-spec =
     tie.close
     (tie.spec
-    sub-read-registers
-    part-read-registers-start
-    part-read-registers-end
-    read-registers-requires
-    sub-read-counts
-    part-read-counts-start
-    part-read-counts-end
-    read-counts-requires
-    sub-read-pins
-    part-read-pins-start
-    part-read-pins-end
-    read-pins-requires
-    sub-read-lines
-    part-read-lines-start
-    part-read-lines-end
-    read-lines-requires
+    sub-device
+    part-device-start
+    part-device-end
+    sub-device-2
+    part-device-start-2
+    part-device-end-2
+    sub-device-3
+    part-device-start-3
+    part-device-end-3
+    sub-device-4
+    part-device-start-4
+    part-device-end-4
+    device-requires
     returns)

@@ -34,9 +34,10 @@ refuse-requires-2 c κs = search needs
 returns-2 : tie.Need-returns-2
 unfolding restoredOf
 returns-2 c =
-    let b = c .before .before in
-    let same = sym (b .same-bytes .ensures) ∙ not-true _ (c .before .if2 .taken) in
-    simp (eq-eqb _ _ (b .before .before .before .if1 .left), same, c .refuse2 .ensures)
+    let at-table = c .before .before in
+    let same = sym (at-table .same-bytes .ensures) ∙ not-true _ (c .before .if2 .taken) in
+    let long = eq-eqb _ _ (at-table .before .before .before .if1 .left) in
+    simp (long, same, c .refuse2 .ensures)
 
 is-clear-requires : tie.Need-is-clear-requires
 is-clear-requires c κs = search needs
@@ -47,11 +48,12 @@ refuse-requires-3 c κs = search needs
 returns-3 : tie.Need-returns-3
 unfolding restoredOf
 returns-3 c =
-    let k = c .before .before in
-    let b = k .before .before in
-    let same = sym (b .same-bytes .ensures) ∙ not-false _ (k .before .if2 .left) in
-    let clear = sym (k .is-clear .ensures) ∙ not-true _ (c .before .if3 .taken) in
-    simp (eq-eqb _ _ (b .before .before .before .if1 .left), same, clear, c .refuse3 .ensures)
+    let at-clear = c .before .before in
+    let at-table = at-clear .before .before in
+    let same = sym (at-table .same-bytes .ensures) ∙ not-false _ (at-clear .before .if2 .left) in
+    let clear = sym (at-clear .is-clear .ensures) ∙ not-true _ (c .before .if3 .taken) in
+    let long = eq-eqb _ _ (at-table .before .before .before .if1 .left) in
+    simp (long, same, clear, c .refuse3 .ensures)
 
 read-requires : tie.Need-read-requires
 read-requires c κs = search needs
@@ -65,24 +67,26 @@ refuse-requires-4 c κs = search needs
 returns-4 : tie.Need-returns-4
 unfolding restoredOf
 returns-4 c =
-    let r = c .before .before .before in
-    let k = r .before .before in
-    let b = k .before .before in
-    let same = sym (b .same-bytes .ensures) ∙ not-false _ (k .before .if2 .left) in
-    let clear = sym (k .is-clear .ensures) ∙ not-false _ (r .before .if3 .left) in
-    let sound = ap soundOf (sym (r .read .ensures)) ∙ sym (c .before .before .sound .ensures) ∙ not-true _ (c .before .if4 .taken) in
-    simp (eq-eqb _ _ (b .before .before .before .if1 .left), same, clear, sound, c .refuse4 .ensures)
+    let at-read = c .before .before .before in
+    let at-clear = at-read .before .before in
+    let at-table = at-clear .before .before in
+    let same = sym (at-table .same-bytes .ensures) ∙ not-false _ (at-clear .before .if2 .left) in
+    let clear = sym (at-clear .is-clear .ensures) ∙ not-false _ (at-read .before .if3 .left) in
+    let sound = ap soundOf (sym (at-read .read .ensures)) ∙ sym (c .before .before .sound .ensures) ∙ not-true _ (c .before .if4 .taken) in
+    let long = eq-eqb _ _ (at-table .before .before .before .if1 .left) in
+    simp (long, same, clear, sound, c .refuse4 .ensures)
 
 returns-5 : tie.Need-returns-5
 unfolding restoredOf
 returns-5 c =
-    let r = c .before .before in
-    let k = r .before .before in
-    let b = k .before .before in
-    let same = sym (b .same-bytes .ensures) ∙ not-false _ (k .before .if2 .left) in
-    let clear = sym (k .is-clear .ensures) ∙ not-false _ (r .before .if3 .left) in
-    let sound = ap soundOf (sym (r .read .ensures)) ∙ sym (c .before .sound .ensures) ∙ not-false _ (c .if4 .left) in
-    simp (eq-eqb _ _ (b .before .before .before .if1 .left), same, clear, sound, r .read .ensures)
+    let at-read = c .before .before in
+    let at-clear = at-read .before .before in
+    let at-table = at-clear .before .before in
+    let same = sym (at-table .same-bytes .ensures) ∙ not-false _ (at-clear .before .if2 .left) in
+    let clear = sym (at-clear .is-clear .ensures) ∙ not-false _ (at-read .before .if3 .left) in
+    let sound = ap soundOf (sym (at-read .read .ensures)) ∙ sym (c .before .sound .ensures) ∙ not-false _ (c .if4 .left) in
+    let long = eq-eqb _ _ (at-table .before .before .before .if1 .left) in
+    simp (long, same, clear, sound, at-read .read .ensures)
 
 pub restore-spec : {M : Type 1} → statement M
 restore-spec =

@@ -1,5 +1,5 @@
 use mathlib.Core.Path.{sym, _∙_}
-use borrow.Author.Tests.{not-true, not-false, lt-leb, le-leb}
+use borrow.Author.Tests.{not-true, not-false, lt-ltb, le-ltb}
 use Rattle.image.specs.Image.{saveCode, savedOf}
 use borrow.Author.Needs.{needs}
 use Rattle.image.proofs.save.Statement.{statement}
@@ -17,7 +17,7 @@ returns-2 : tie.Need-returns-2
 unfolding saveCode savedOf
 returns-2 c =
     let h = sym (c .before .before .sound .ensures) ∙ not-false _ (c .before .if1 .left) in
-    let g = lt-leb _ _ (c .if2 .taken) in (simp (h, g), simp (h, g))
+    let g = lt-ltb _ _ (c .if2 .taken) in (simp (h, g), simp (h, g))
 
 write-requires : tie.Need-write-requires
 write-requires c κs = search needs
@@ -30,7 +30,7 @@ unfolding saveCode savedOf
 returns-3 c =
     let e = c .before .before .before .before in
     let h = sym (e .before .before .sound .ensures) ∙ not-false _ (e .before .if1 .left) in
-    let g = le-leb _ _ (e .if2 .left) in (simp (h, g), c .before .before .write .ensures ∙ simp (h, g))
+    let g = le-ltb _ _ (e .if2 .left) in (simp (h, g), c .before .before .write .ensures ∙ simp (h, g))
 
 pub save-spec : {M : Type 1} → statement M
 save-spec =

@@ -1,15 +1,23 @@
+use Prim.Native.Nat.{ℕ}
+use mathlib.Core.List.{List, _++_}
 use mathlib.Core.Path.{refl, ap, _∙_}
 use denote.Ref.{now}
 use native.Mathlib.Nat.{le-trans}
 use lib.Dec.{lit≤}
-use lib.ListN.{length}
-use Rattle.bodies.specs.Written.{registersOf, countsOf, pinsOf, linesOf}
+use lib.ListN.{length, drop}
+use Rattle.rules.specs.Record.{imageLen}
+use Rattle.bodies.specs.declared.Bodies.{Bodies}
+use Rattle.bodies.specs.Layout.{layout1, contentsOf}
+use Rattle.bodies.specs.Written.{registersBody, countsBody, pinsBody, linesBody}
 use Rattle.bodies.proofs.Laid.{none, more}
 use Rattle.bodies.proofs.Lists.{registers-length}
-use Rattle.image.specs.Image.{contents, imageOf}
+use Rattle.bodies.proofs.Whole.{image-laid}
 use borrow.Author.Needs.{needs}
 use Rattle.image.proofs.write.Statement.{statement}
 use Rattle.image.proofs.write.Tie as tie
+
+bodies-requires : tie.Need-bodies-requires
+bodies-requires c κs = tt
 
 slice-aggregate-lay : tie.Need-slice-aggregate-lay
 slice-aggregate-lay c = search needs
@@ -17,38 +25,14 @@ slice-aggregate-lay c = search needs
 lay-requires : tie.Need-lay-requires
 lay-requires c κs = tt
 
-registers-requires : tie.Need-registers-requires
-registers-requires c κs = tt
-
-slice-aggregate-lay-2 : tie.Need-slice-aggregate-lay-2
-slice-aggregate-lay-2 c = search needs
-
 lay-requires-2 : tie.Need-lay-requires-2
 lay-requires-2 c κs = tt
-
-counts-requires : tie.Need-counts-requires
-counts-requires c κs = tt
-
-slice-aggregate-lay-3 : tie.Need-slice-aggregate-lay-3
-slice-aggregate-lay-3 c = search needs
 
 lay-requires-3 : tie.Need-lay-requires-3
 lay-requires-3 c κs = tt
 
-pins-requires : tie.Need-pins-requires
-pins-requires c κs = tt
-
-slice-aggregate-lay-4 : tie.Need-slice-aggregate-lay-4
-slice-aggregate-lay-4 c = search needs
-
 lay-requires-4 : tie.Need-lay-requires-4
 lay-requires-4 c κs = tt
-
-lines-requires : tie.Need-lines-requires
-lines-requires c κs = tt
-
-slice-aggregate-lay-5 : tie.Need-slice-aggregate-lay-5
-slice-aggregate-lay-5 c = search needs
 
 lay-requires-5 : tie.Need-lay-requires-5
 lay-requires-5 c κs = tt
@@ -57,43 +41,38 @@ same-length : tie.Need-same-length
 same-length c = search needs
 
 returns : tie.Need-returns
-unfolding imageOf registersOf countsOf pinsOf linesOf
+unfolding registersBody countsBody pinsBody linesBody
 returns c =
-    let p5 = c .before .before in
-    let p4 = p5 .before .before .before .before .before .before in
-    let p3 = p4 .before .before .before .before .before .before in
-    let p2 = p3 .before .before .before .before .before .before in
-    let p1 = p2 .before .before .before .before .before .before in
-    let a = p1 .before .before .before .before .args in
-    let h = p1 .before .before .before .before .pre in
-    let r = p2 .before .before .registers in
-    let n = p3 .before .before .counts in
-    let q = p4 .before .before .pins in
-    let v = p5 .before .before .lines in
-    let l1 = more contents 18 refl (le-trans (lit≤ tt) h) (none (now (a .buf))) (p1 .lay .ensures .0) in
-    let l2 = more (r .result) 48 (ap length (r .ensures) ∙ registers-length (a .d) 0 48) (le-trans (lit≤ tt) h) l1 (p2 .lay2 .ensures .0) in
-    let l3 = more (n .result) 9 (ap length (n .ensures)) (le-trans (lit≤ tt) h) l2 (p3 .lay3 .ensures .0) in
-    let l4 = more (q .result) 7 (ap length (q .ensures)) (le-trans (lit≤ tt) h) l3 (p4 .lay4 .ensures .0) in
-    let l5 = more (v .result) 2 (ap length (v .ensures)) (le-trans (lit≤ tt) h) l4 (p5 .lay5 .ensures .0) in
-    l5 .holds ∙ simp (r .ensures, n .ensures, q .ensures, v .ensures)
+    let lines = c .before .before in
+    let pins = lines .before .before .before .before .before .before .before in
+    let counts = pins .before .before .before .before .before .before .before in
+    let registers = counts .before .before .before .before .before .before .before in
+    let table = registers .before .before .before .before .before .before .before in
+    let made = table .before .before .before in
+    let a = made .before .before .args in
+    let room = made .before .before .pre in
+    let b = made .bodies .result in
+    let is = made .bodies .ensures in
+    let l1 = more (contentsOf layout1) 18 refl (le-trans (lit≤ tt) room) (none (now (a .buf))) (table .lay .ensures .0) in
+    let long = ap (λ (x : Bodies). length (x .registers)) is ∙ registers-length (a .d) 0 48 in
+    let l2 = more (b .registers) 48 long (le-trans (lit≤ tt) room) l1 (registers .lay2 .ensures .0) in
+    let l3 = more (b .counts) 9 (ap (λ (x : Bodies). length (x .counts)) is) (le-trans (lit≤ tt) room) l2 (counts .lay3 .ensures .0) in
+    let l4 = more (b .pins) 7 (ap (λ (x : Bodies). length (x .pins)) is) (le-trans (lit≤ tt) room) l3 (pins .lay4 .ensures .0) in
+    let l5 = more (b .lines) 2 (ap (λ (x : Bodies). length (x .lines)) is) (le-trans (lit≤ tt) room) l4 (lines .lay5 .ensures .0) in
+    let rest = drop imageLen (now (a .buf)) in
+    l5 .holds ∙ ap (λ (x : Bodies). contentsOf layout1 ++ x .registers ++ x .counts ++ x .pins ++ x .lines ++ rest) is
+    ∙ ap (λ (l : List ℕ). l ++ rest) (image-laid (a .d))
 
 pub write-spec : {M : Type 1} → statement M
 write-spec =
     tie.close
     (tie.spec
+    bodies-requires
     slice-aggregate-lay
     lay-requires
-    registers-requires
-    slice-aggregate-lay-2
     lay-requires-2
-    counts-requires
-    slice-aggregate-lay-3
     lay-requires-3
-    pins-requires
-    slice-aggregate-lay-4
     lay-requires-4
-    lines-requires
-    slice-aggregate-lay-5
     lay-requires-5
     same-length
     returns)

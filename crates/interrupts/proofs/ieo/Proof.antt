@@ -8,7 +8,7 @@ served-at-requires c κs = search needs
 
 returns : tie.Need-returns
 unfolding ieoOf
-returns c = simp (c .before .before .served-at .ensures)
+returns c = simp (c .before .served-at .ensures)
 
 pub ieo-spec : {M : Type 1} → statement M
 ieo-spec = tie.close (tie.spec served-at-requires returns)

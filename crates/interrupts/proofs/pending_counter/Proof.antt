@@ -18,9 +18,9 @@ first-requires c κs = search needs
 returns : tie.Need-returns
 unfolding pendingCounter
 returns c =
-    let b2 = c .before .before in
-    let b3 = b2 .before in
-    (simp (c .first .ensures .0, b3 .pending-at .ensures, b2 .pending-at2 .ensures, c .before .pending-at3 .ensures), c .first .ensures .1)
+    let at-ct2 = c .before .before in
+    let at-ct3 = at-ct2 .before in
+    (simp (c .first .ensures .0, c .before .pending-at3 .ensures, at-ct2 .pending-at2 .ensures, at-ct3 .pending-at .ensures), c .first .ensures .1)
 
 pub pending-counter-spec : {M : Type 1} → statement M
 pending-counter-spec =

@@ -24,11 +24,19 @@ first-requires c κs = search needs
 returns : tie.Need-returns
 unfolding requester first
 returns c =
-    let b2 = c .before .before in
-    let b3 = b2 .before in
-    let b4 = b3 .before in
-    let b5 = b4 .before in
-    (simp (c .first .ensures .0, b5 .requests-at .ensures, b4 .requests-at2 .ensures, b3 .requests-at3 .ensures, b2 .requests-at4 .ensures, c .before .requests-at5 .ensures), c .first .ensures .1)
+    let at-b = c .before .before in
+    let at-ct2 = at-b .before in
+    let at-a = at-ct2 .before in (
+      simp (
+        c .first .ensures .0,
+        c .before .requests-at5 .ensures,
+        at-b .requests-at4 .ensures,
+        at-ct2 .requests-at3 .ensures,
+        at-a .requests-at2 .ensures,
+        at-a .before .requests-at .ensures,
+      ),
+      c .first .ensures .1,
+    )
 
 pub requester-of-spec : {M : Type 1} → statement M
 requester-of-spec =

@@ -3,6 +3,9 @@ use borrow.Author.Needs.{needs}
 use Rattle.interrupts.proofs.requests_at.Statement.{statement}
 use Rattle.interrupts.proofs.requests_at.Tie as tie
 
+mie-requires : tie.Need-mie-requires
+mie-requires c κs = search needs
+
 pending-at-requires : tie.Need-pending-at-requires
 pending-at-requires c κs = search needs
 
@@ -11,7 +14,9 @@ served-at-requires c κs = search needs
 
 returns : tie.Need-returns
 unfolding requests
-returns c = simp (c .before .before .served-at .ensures, c .before .before .before .pending-at .ensures)
+returns c =
+    let at-pending = c .before in
+    simp (c .served-at .ensures, at-pending .pending-at .ensures, at-pending .before .before .mie .ensures)
 
 pub requests-at-spec : {M : Type 1} → statement M
-requests-at-spec = tie.close (tie.spec pending-at-requires served-at-requires returns)
+requests-at-spec = tie.close (tie.spec mie-requires pending-at-requires served-at-requires returns)

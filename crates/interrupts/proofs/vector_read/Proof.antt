@@ -1,6 +1,4 @@
-use native.Mathlib.Omega.{arith}
-use mathlib.Core.Path.{_≡_}
-use borrow.Author.Tests.{ne-eqb}
+use borrow.Author.Tests.{eq-eqb, ne-eqb}
 use Rattle.rules.specs.Interrupts.{vectorRead}
 use borrow.Author.Needs.{needs}
 use Rattle.interrupts.proofs.vector_read.Statement.{statement}
@@ -9,62 +7,96 @@ use Rattle.interrupts.proofs.vector_read.Tie as tie
 vector-at-requires : tie.Need-vector-at-requires
 vector-at-requires c κs = search needs
 
+mie-requires : tie.Need-mie-requires
+mie-requires c κs = search needs
+
 returns : tie.Need-returns
 unfolding vectorRead
-returns c = simp (c .before .before .vector-at .ensures, c .if1 .taken)
+returns c =
+    let at-mie = c .before in
+    simp (← at-mie .mie .ensures, c .if1 .taken, at-mie .before .vector-at .ensures)
 
 with-status-requires : tie.Need-with-status-requires
 with-status-requires c κs = search needs
 
 returns-2 : tie.Need-returns-2
 unfolding vectorRead
-returns-2 c = simp (c .with-status .ensures, c .before .before .if1 .left, c .before .if2 .taken)
+returns-2 c =
+    let at-if2 = c .before in
+    let at-if1 = at-if2 .before in
+    simp (c .with-status .ensures, ← at-if1 .before .mie .ensures, at-if1 .if1 .left, eq-eqb _ _ (at-if2 .if2 .taken))
 
 with-status-requires-2 : tie.Need-with-status-requires-2
 with-status-requires-2 c κs = search needs
 
 returns-3 : tie.Need-returns-3
 unfolding vectorRead
-returns-3 c = simp (c .with-status2 .ensures, c .before .before .before .if1 .left, c .before .if3 .taken)
+returns-3 c =
+    let at-if3 = c .before in
+    let at-if2 = at-if3 .before in
+    let at-if1 = at-if2 .before in
+    simp (
+      c .with-status2 .ensures,
+      ← at-if1 .before .mie .ensures,
+      at-if1 .if1 .left,
+      ne-eqb _ _ (at-if2 .if2 .left),
+      eq-eqb _ _ (at-if3 .if3 .taken),
+    )
 
 pending-counter-requires : tie.Need-pending-counter-requires
 pending-counter-requires c κs = search needs
 
-with-status-requires-3 : tie.Need-with-status-requires-3
-with-status-requires-3 c κs = search needs
-
 returns-4 : tie.Need-returns-4
 unfolding vectorRead
 returns-4 c =
-    let b2 = c .before .before in
-    let b3 = b2 .before in
-    let b4 = b3 .before in
-    let b5 = b4 .before in
-    simp
-    (c .with-status3 .ensures, b5 .if1 .left, ne-eqb _ _ (b4 .if2 .left), ne-eqb _ _ (b3 .if3 .left), ← b2 .pending-counter .ensures .0, ne-eqb (b2 .pending-counter .result) 5 (λ z. omega arith))
+    let at-counter = c .before in
+    let at-if3 = at-counter .before in
+    let at-if2 = at-if3 .before in
+    let at-if1 = at-if2 .before in
+    let at-mie = at-if1 .before in
+    simp (
+      at-mie .before .vector-at .ensures,
+      ← at-mie .mie .ensures,
+      at-if1 .if1 .left,
+      ne-eqb _ _ (at-if2 .if2 .left),
+      ne-eqb _ _ (at-if3 .if3 .left),
+      ← at-counter .pending-counter .ensures .0,
+      eq-eqb _ _ (c .if4 .taken),
+    )
+
+with-status-requires-3 : tie.Need-with-status-requires-3
+with-status-requires-3 c κs = search needs
 
 returns-5 : tie.Need-returns-5
 unfolding vectorRead
 returns-5 c =
-    let k = c .before .pending-counter in
-    let b2 = c .before .before in
-    let b3 = b2 .before in
-    let b4 = b3 .before in
-    let z : k .result ≡ 5 = omega (arith, k .ensures .1) in
-    simp
-    (b4 .before .before .vector-at .ensures, b4 .if1 .left, ne-eqb _ _ (b3 .if2 .left), ne-eqb _ _ (b2 .if3 .left), ← k .ensures .0, z)
+    let at-if4 = c .before in
+    let at-counter = at-if4 .before in
+    let at-if3 = at-counter .before in
+    let at-if2 = at-if3 .before in
+    let at-if1 = at-if2 .before in
+    simp (
+      c .with-status3 .ensures,
+      ← at-if1 .before .mie .ensures,
+      at-if1 .if1 .left,
+      ne-eqb _ _ (at-if2 .if2 .left),
+      ne-eqb _ _ (at-if3 .if3 .left),
+      ← at-counter .pending-counter .ensures .0,
+      ne-eqb _ _ (at-if4 .if4 .left),
+    )
 
 pub vector-read-spec : {M : Type 1} → statement M
 vector-read-spec =
     tie.close
     (tie.spec
     vector-at-requires
+    mie-requires
     returns
     with-status-requires
     returns-2
     with-status-requires-2
     returns-3
     pending-counter-requires
-    with-status-requires-3
     returns-4
+    with-status-requires-3
     returns-5)

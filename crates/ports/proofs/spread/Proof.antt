@@ -1,4 +1,4 @@
-use Rattle.rules.specs.Byte.{byteOf}
+use Rattle.basics.specs.Byte.{byteOf}
 use Rattle.ports.proofs.spread.Statement.{statement}
 use Rattle.ports.proofs.spread.Tie as tie
 

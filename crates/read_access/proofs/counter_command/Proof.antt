@@ -1,33 +1,41 @@
+use native.Mathlib.Nat.{mod-eq-of-lt}
 use Rattle.rules.specs.Access.{counterCommand}
 use borrow.Author.Needs.{needs}
 use Rattle.read_access.proofs.counter_command.Statement.{statement}
 use Rattle.read_access.proofs.counter_command.Tie as tie
 
-mul-s : tie.Need-mul-s
-mul-s c = search needs
+of-counter-requires : tie.Need-of-counter-requires
+of-counter-requires c κs = search needs
 
-sub-s : tie.Need-sub-s
-sub-s c = search needs
+mul-counter-command : tie.Need-mul-counter-command
+mul-counter-command c = search needs
 
-mul-s-2 : tie.Need-mul-s-2
-mul-s-2 c = search needs
+element-copy-out-counter-command : tie.Need-element-copy-out-counter-command
+element-copy-out-counter-command c = search needs
 
-element-copy-out-s : tie.Need-element-copy-out-s
-element-copy-out-s c = search needs
+mul-counter-command-2 : tie.Need-mul-counter-command-2
+mul-counter-command-2 c = search needs
 
-mul-c : tie.Need-mul-c
-mul-c c = search needs
-
-element-copy-out-c : tie.Need-element-copy-out-c
-element-copy-out-c c = search needs
+element-copy-out-counter-command-2 : tie.Need-element-copy-out-counter-command-2
+element-copy-out-counter-command-2 c = search needs
 
 counter-command-requires : tie.Need-counter-command-requires
 counter-command-requires c κs = search needs
 
 returns : tie.Need-returns
 unfolding counterCommand
-returns c = c .counter-command .ensures
+returns c =
+    let at-place = c .before .before .before in
+    simp (c .counter-command .ensures, at-place .of-counter .ensures, mod-eq-of-lt (at-place .before .pre))
 
 pub counter-command-spec : {M : Type 1} → statement M
 counter-command-spec =
-    tie.close (tie.spec mul-s sub-s mul-s-2 element-copy-out-s mul-c element-copy-out-c counter-command-requires returns)
+    tie.close
+    (tie.spec
+    of-counter-requires
+    mul-counter-command
+    element-copy-out-counter-command
+    mul-counter-command-2
+    element-copy-out-counter-command-2
+    counter-command-requires
+    returns)

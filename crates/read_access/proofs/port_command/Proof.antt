@@ -1,33 +1,41 @@
+use native.Mathlib.Nat.{mod-eq-of-lt}
 use Rattle.rules.specs.Access.{portCommand}
 use borrow.Author.Needs.{needs}
 use Rattle.read_access.proofs.port_command.Statement.{statement}
 use Rattle.read_access.proofs.port_command.Tie as tie
 
-mul-s : tie.Need-mul-s
-mul-s c = search needs
+of-port-requires : tie.Need-of-port-requires
+of-port-requires c κs = search needs
 
-add-s : tie.Need-add-s
-add-s c = search needs
+mul-port-command : tie.Need-mul-port-command
+mul-port-command c = search needs
 
-mul-s-2 : tie.Need-mul-s-2
-mul-s-2 c = search needs
+element-copy-out-port-command : tie.Need-element-copy-out-port-command
+element-copy-out-port-command c = search needs
 
-element-copy-out-s : tie.Need-element-copy-out-s
-element-copy-out-s c = search needs
+mul-port-command-2 : tie.Need-mul-port-command-2
+mul-port-command-2 c = search needs
 
-mul-q : tie.Need-mul-q
-mul-q c = search needs
-
-element-copy-out-q : tie.Need-element-copy-out-q
-element-copy-out-q c = search needs
+element-copy-out-port-command-2 : tie.Need-element-copy-out-port-command-2
+element-copy-out-port-command-2 c = search needs
 
 port-command-requires : tie.Need-port-command-requires
 port-command-requires c κs = search needs
 
 returns : tie.Need-returns
 unfolding portCommand
-returns c = c .port-command .ensures
+returns c =
+    let at-place = c .before .before .before in
+    simp (c .port-command .ensures, at-place .of-port .ensures, mod-eq-of-lt (at-place .before .pre))
 
 pub port-command-spec : {M : Type 1} → statement M
 port-command-spec =
-    tie.close (tie.spec mul-s add-s mul-s-2 element-copy-out-s mul-q element-copy-out-q port-command-requires returns)
+    tie.close
+    (tie.spec
+    of-port-requires
+    mul-port-command
+    element-copy-out-port-command
+    mul-port-command-2
+    element-copy-out-port-command-2
+    port-command-requires
+    returns)

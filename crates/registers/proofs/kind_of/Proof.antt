@@ -1,4 +1,4 @@
-use Rattle.bits.proofs.Tabled.{at}
+use Rattle.basics.proofs.Tabled.{at}
 use borrow.Author.Tests.{lt-ltb, le-ltb}
 use mathlib.Core.Path.{_∙_}
 use Rattle.rules.specs.Registers.{kindIn, kindOf, portKind}

@@ -7,8 +7,10 @@ use borrow.Author.Tests.{ltb-true, leb-true}
 use lib.Dec.{ltb, leb}
 use lib.ListN.{length}
 use denote.Ref.{now}
+use Rattle.texts.specs.Kept.{textRoom}
 use Rattle.session.specs.declared.Fed.{Fed}
-use Rattle.session.proofs.Feeding.{SoFar, none-yet, one-more, at-end, len-within, out-length, both, fed-on}
+use Rattle.lines.proofs.Tests.{both}
+use Rattle.session.proofs.Feeding.{SoFar, none-yet, one-more, at-end, len-within, out-length, fed-on}
 use Rattle.session.proofs.feed.Statement.{statement}
 use Rattle.session.proofs.feed.Tie as tie
 
@@ -32,12 +34,12 @@ add-if1 c =
 -- in a turn there are bytes left, and room for an answer
 going : (c : tie.Then1 Inv-loop μ-loop)
     → (c .before .before .before .loop .f .next < length (now (c .before .before .before .before .before .before .args .piece)))
-    × (c .before .before .before .loop .f .len + 80 ≤ length (c .before .before .before .loop .out))
+    × (c .before .before .before .loop .f .len + textRoom ≤ length (c .before .before .before .loop .out))
 going c =
     let l = c .before .before .before .loop in
     let piece = now (c .before .before .before .before .before .before .args .piece) in
-    let e = both (ltb (l .f .next) (length piece)) (leb (l .f .len + 80) (length (l .out))) (c .if1 .taken) in
-    (ltb-true (l .f .next) (length piece) (e .0), leb-true (l .f .len + 80) (length (l .out)) (e .1))
+    let e = both (ltb (l .f .next) (length piece)) (leb (l .f .len + textRoom) (length (l .out))) (c .if1 .taken) in
+    (ltb-true (l .f .next) (length piece) (e .0), leb-true (l .f .len + textRoom) (length (l .out)) (e .1))
 
 take-line-requires : tie.Need-take-line-requires Inv-loop μ-loop
 take-line-requires c κs = going (c .before) .1

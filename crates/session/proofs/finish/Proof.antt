@@ -1,26 +1,18 @@
-use Prim.Native.Nat.{ℕ}
-use mathlib.Core.Bool.{cond}
-use mathlib.Core.List.{List, []}
 use mathlib.Core.Path.{sym, ap, _∙_}
-use native.Mathlib.Nat.{zero-add}
 use native.Mathlib.Omega.{arith}
 use borrow.Author.Needs.{needs}
-use lib.ListN.{length}
 use denote.Ref.{now}
-use Rattle.texts.specs.Answers.{answerText}
-use Rattle.rules.specs.Buffer.{fits, laidOf}
-use Rattle.session.specs.Sessions.{outcomeBy, answersLast}
-use Rattle.session.proofs.Telling.{last-none, last-some, laid-none, laid-within, zero-both}
+use Rattle.basics.specs.Buffer.{laidOf}
+use Rattle.session.specs.declared.Told.{Told}
+use Rattle.session.proofs.Telling.{last-none, last-some, laid-none, finished-none, finished-some, finished-within}
 use Rattle.session.proofs.finish.Statement.{statement}
 use Rattle.session.proofs.finish.Tie as tie
 
 returns : tie.Need-returns
 returns c =
-    let a = c .before .before .before .before .args in
-    let z = last-none (a .s) (c .if1 .taken) in (
-      sym (ap (laidOf (now (a .out)) 0) z ∙ laid-none (now (a .out)) 0),
-      (sym (ap (λ (w : List ℕ). cond (fits (now (a .out)) 0 w) (length w) 0) z ∙ zero-both (fits (now (a .out)) 0 [])), omega arith),
-    )
+    let a = c .before .before .before .before .before .args in
+    let z = last-none (a .s) (c .if1 .taken) in
+    (finished-none (a .s) (now (a .out)) (c .if1 .taken), (sym (ap (laidOf (now (a .out)) 0) z ∙ laid-none (now (a .out)) 0), omega arith))
 
 tell-requires : tie.Need-tell-requires
 tell-requires c κs = search needs
@@ -30,14 +22,14 @@ same-length c = search needs
 
 returns-2 : tie.Need-returns-2
 returns-2 c =
-    let t = c .before .before in
-    let a = c .before .before .before .before .before .before .before .before .before .args in
-    let z = last-some (a .s) (c .before .before .before .before .before .if1 .left) in
-    let n =
-    t .tell .ensures .1 .1 ∙ ap (λ (k : ℕ). cond (fits (now (a .out)) 0 (answerText (outcomeBy (a .s .device) (a .s .text) .answer))) k 0) (zero-add _)
-    ∙ ap (λ (w : List ℕ). cond (fits (now (a .out)) 0 w) (length w) 0) (sym z) in
-    let r = laid-within (now (a .out)) (answersLast (a .s)) in
-    (t .tell .ensures .1 .0 ∙ ap (laidOf (now (a .out)) 0) (sym z), (n, omega (arith, t .tell .kept .1 .1 .0)))
+    let at-if = c .before .before .before .before in
+    let a = at-if .before .before .before .before .before .args in
+    let some = at-if .if1 .left in
+    let told = c .before .before .tell .ensures in
+    let e = finished-some (a .s) (now (a .out)) (c .before .before .tell .result) some (told .0) (told .1 .1) in
+    let n = ap (λ (r : Told). r .len) e in
+    let w = finished-within (a .s) (now (a .out)) in
+    (e, (told .1 .0 ∙ ap (laidOf (now (a .out)) 0) (sym (last-some (a .s) some)), omega (arith, c .before .before .tell .kept .1 .1 .0)))
 
 pub finish-spec : {M : Type 1} → statement M
 finish-spec = tie.close (tie.spec returns tell-requires same-length returns-2)

@@ -9,18 +9,14 @@ use Rattle.rules.specs.Events.{eventOf}
 use Rattle.rules.specs.declared.Outcome.{Outcome}
 use Rattle.texts.proofs.Printed.{answer-bytes}
 use Rattle.texts.specs.Answers.{answerText}
-use Rattle.rules.specs.Buffer.{fits, laidOf}
+use Rattle.basics.specs.Buffer.{fits, laidOf}
 use Rattle.texts.specs.Kept.{bytesOf}
-use Rattle.lines.specs.Lines.{eventIn}
 use Rattle.session.specs.Sessions.{outcomeBy}
 use Rattle.session.proofs.tell.Statement.{statement}
 use Rattle.session.proofs.tell.Tie as tie
 
-says-requires : tie.Need-says-requires
-says-requires c κs = search needs
-
-event-in-requires : tie.Need-event-in-requires
-event-in-requires c κs = search needs
+event-of-line-requires : tie.Need-event-of-line-requires
+event-of-line-requires c κs = search needs
 
 event-requires : tie.Need-event-requires
 event-requires c κs = search needs
@@ -39,9 +35,9 @@ returns c =
     let l = c .before .before in
     let x = l .before .before in
     let v = x .before .before .before in
-    let a = v .before .before .before .before .args in
+    let a = v .before .before .before .args in
     let o : v .event .result ≡ outcomeBy (a .d) (a .t) =
-    v .event .ensures ∙ ap (eventOf (a .d)) (v .before .event-in .ensures ∙ ap eventIn (v .before .before .says .ensures)) in
+    v .event .ensures ∙ ap (eventOf (a .d)) (v .before .event-of-line .ensures) in
     let w : bytesOf (x .answer-text .result) ≡ answerText (outcomeBy (a .d) (a .t) .answer) =
     ap bytesOf (x .answer-text .ensures) ∙ answer-bytes (v .event .result .answer) ∙ ap (λ (r : Outcome). answerText (r .answer)) o in (
       ap (λ (r : Outcome). r .device) o,
@@ -52,8 +48,7 @@ pub tell-spec : {M : Type 1} → statement M
 tell-spec =
     tie.close
     (tie.spec
-    says-requires
-    event-in-requires
+    event-of-line-requires
     event-requires
     answer-text-requires
     lay-requires

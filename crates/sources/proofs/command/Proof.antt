@@ -58,7 +58,22 @@ returns-7 c = simp (c .before .match .keys7, c .set-ie2 .ensures)
 
 returns-8 : tie.Need-returns-8
 unfolding commanded
-returns-8 c = let r = c .match .rest in simp (ne-eqb _ _ (r .1), ne-eqb _ _ (r .0 .1), ne-eqb _ _ (r .0 .0 .1), ne-eqb _ _ (r .0 .0 .0 .1), ne-eqb _ _ (r .0 .0 .0 .0 .1), ne-eqb _ _ (r .0 .0 .0 .0 .0 .1), ne-eqb _ _ (r .0 .0 .0 .0 .0 .0 .1))
+returns-8 c =
+    let not-7 = c .match .rest in
+    let not-6 = not-7 .0 in
+    let not-5 = not-6 .0 in
+    let not-4 = not-5 .0 in
+    let not-3 = not-4 .0 in
+    let not-2 = not-3 .0 in
+    simp (
+      ne-eqb _ _ (not-7 .1),
+      ne-eqb _ _ (not-6 .1),
+      ne-eqb _ _ (not-5 .1),
+      ne-eqb _ _ (not-4 .1),
+      ne-eqb _ _ (not-3 .1),
+      ne-eqb _ _ (not-2 .1),
+      ne-eqb _ _ (not-2 .0 .1),
+    )
 
 pub command-spec : {M : Type 1} → statement M
 command-spec =

@@ -1,3 +1,4 @@
+use native.Mathlib.Nat.{mod-eq-of-lt}
 use Rattle.rules.specs.Step.{matchedBy}
 use borrow.Author.Needs.{needs}
 use Rattle.step.proofs.matched_by.Statement.{statement}
@@ -15,18 +16,18 @@ mul-e c = search needs
 way-write-given-e : tie.Need-way-write-given-e
 way-write-given-e c = search needs
 
-mul-event-at : tie.Need-mul-event-at
-mul-event-at c = search needs
-
-add-event-at : tie.Need-add-event-at
-add-event-at c = search needs
+of-port-requires : tie.Need-of-port-requires
+of-port-requires c κs = search needs
 
 event-at-requires : tie.Need-event-at-requires
 event-at-requires c κs = search needs
 
 returns : tie.Need-returns
 unfolding matchedBy
-returns c = simp (c .event-at .ensures)
+returns c =
+    let at-place = c .before .before in
+    let at-start = at-place .before .before .before in
+    simp (c .event-at .ensures, at-place .of-port .ensures, mod-eq-of-lt (at-start .pre))
 
 pub matched-by-spec : {M : Type 1} → statement M
 matched-by-spec =
@@ -36,7 +37,6 @@ matched-by-spec =
     element-copy-out-q
     mul-e
     way-write-given-e
-    mul-event-at
-    add-event-at
+    of-port-requires
     event-at-requires
     returns)

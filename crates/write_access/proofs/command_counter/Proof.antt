@@ -1,14 +1,11 @@
+use native.Mathlib.Nat.{mod-eq-of-lt}
 use Rattle.rules.specs.Access.{counterCommanded}
 use borrow.Author.Needs.{needs}
 use Rattle.write_access.proofs.command_counter.Statement.{statement}
 use Rattle.write_access.proofs.command_counter.Tie as tie
-use Rattle.sources.proofs.command.Reads as command-reads′
 
-mul-k : tie.Need-mul-k
-mul-k c = search needs
-
-sub-k : tie.Need-sub-k
-sub-k c = search needs
+of-counter-requires : tie.Need-of-counter-requires
+of-counter-requires c κs = search needs
 
 mul-command : tie.Need-mul-command
 mul-command c = search needs
@@ -45,14 +42,23 @@ element-set-from-s c = search needs
 
 returns : tie.Need-returns
 unfolding counterCommanded
-returns c = simp (c .before .before .before .command .ensures, c .command2 .ensures, c .before .before .counter-on .ensures)
+returns c =
+    let at-on = c .before .before in
+    let at-command = at-on .before in
+    let at-place = at-command .before .before in
+    simp (
+      c .command2 .ensures,
+      at-on .counter-on .ensures,
+      at-command .command .ensures,
+      at-place .of-counter .ensures,
+      mod-eq-of-lt (at-place .before .pre),
+    )
 
 pub command-counter-spec : {M : Type 1} → statement M
 command-counter-spec =
     tie.close
     (tie.spec
-    mul-k
-    sub-k
+    of-counter-requires
     mul-command
     element-copy-out-command
     command-requires

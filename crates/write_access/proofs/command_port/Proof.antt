@@ -1,14 +1,11 @@
-use native.Mathlib.Nat.{div-one}
+use native.Mathlib.Nat.{div-one, mod-eq-of-lt}
 use Rattle.rules.specs.Access.{portCommanded}
 use borrow.Author.Needs.{needs}
 use Rattle.write_access.proofs.command_port.Statement.{statement}
 use Rattle.write_access.proofs.command_port.Tie as tie
 
-mul-k : tie.Need-mul-k
-mul-k c = search needs
-
-add-k : tie.Need-add-k
-add-k c = search needs
+of-port-requires : tie.Need-of-port-requires
+of-port-requires c κs = search needs
 
 mul-command : tie.Need-mul-command
 mul-command c = search needs
@@ -33,14 +30,16 @@ element-set-from-s c = search needs
 
 returns : tie.Need-returns
 unfolding portCommanded
-returns c = simp (c .before .command .ensures, div-one)
+returns c =
+    let at-command = c .before in
+    let at-place = at-command .before .before in
+    simp (at-command .command .ensures, div-one, at-place .of-port .ensures, mod-eq-of-lt (at-place .before .pre))
 
 pub command-port-spec : {M : Type 1} → statement M
 command-port-spec =
     tie.close
     (tie.spec
-    mul-k
-    add-k
+    of-port-requires
     mul-command
     element-copy-out-command
     command-requires

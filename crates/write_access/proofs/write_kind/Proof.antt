@@ -79,62 +79,32 @@ enum-told-4 c = search needs
 enum-known-k-10 : tie.Need-enum-known-k-10
 enum-known-k-10 c = search needs
 
-mul-q : tie.Need-mul-q
-mul-q c = let h = inside (c .before .k10 .given .1) (c .before .before .before .pre) in search needs
-
-element-copy-out-q : tie.Need-element-copy-out-q
-element-copy-out-q c = inside (c .before .k10 .given .1) (c .before .before .before .pre)
-
-with-pattern-requires : tie.Need-with-pattern-requires
-with-pattern-requires c κs = inside (c .before .before .k10 .given .1) (c .before .before .before .before .pre)
+write-port-mode-requires : tie.Need-write-port-mode-requires
+write-port-mode-requires c κs = inside (c .before .k10 .given .1) (c .before .before .before .pre)
 
 enum-known-k-11 : tie.Need-enum-known-k-11
 enum-known-k-11 c = search needs
 
-mul-q-2 : tie.Need-mul-q-2
-mul-q-2 c = let h = inside (c .before .k11 .given .1) (c .before .before .before .pre) in search needs
-
-element-copy-out-q-2 : tie.Need-element-copy-out-q-2
-element-copy-out-q-2 c = inside (c .before .k11 .given .1) (c .before .before .before .pre)
-
-with-pattern-requires-2 : tie.Need-with-pattern-requires-2
-with-pattern-requires-2 c κs = inside (c .before .before .k11 .given .1) (c .before .before .before .before .pre)
+write-handshake-requires : tie.Need-write-handshake-requires
+write-handshake-requires c κs = inside (c .before .k11 .given .1) (c .before .before .before .pre)
 
 enum-known-k-12 : tie.Need-enum-known-k-12
 enum-known-k-12 c = search needs
 
-mul-q-3 : tie.Need-mul-q-3
-mul-q-3 c = let h = inside (c .before .k12 .given .1) (c .before .before .before .pre) in search needs
-
-element-copy-out-q-3 : tie.Need-element-copy-out-q-3
-element-copy-out-q-3 c = inside (c .before .k12 .given .1) (c .before .before .before .pre)
-
-with-pattern-requires-3 : tie.Need-with-pattern-requires-3
-with-pattern-requires-3 c κs = inside (c .before .before .k12 .given .1) (c .before .before .before .before .pre)
+write-pattern-polarity-requires : tie.Need-write-pattern-polarity-requires
+write-pattern-polarity-requires c κs = inside (c .before .k12 .given .1) (c .before .before .before .pre)
 
 enum-known-k-13 : tie.Need-enum-known-k-13
 enum-known-k-13 c = search needs
 
-mul-q-4 : tie.Need-mul-q-4
-mul-q-4 c = let h = inside (c .before .k13 .given .1) (c .before .before .before .pre) in search needs
-
-element-copy-out-q-4 : tie.Need-element-copy-out-q-4
-element-copy-out-q-4 c = inside (c .before .k13 .given .1) (c .before .before .before .pre)
-
-with-pattern-requires-4 : tie.Need-with-pattern-requires-4
-with-pattern-requires-4 c κs = inside (c .before .before .k13 .given .1) (c .before .before .before .before .pre)
+write-transition-requires : tie.Need-write-transition-requires
+write-transition-requires c κs = inside (c .before .k13 .given .1) (c .before .before .before .pre)
 
 enum-known-k-14 : tie.Need-enum-known-k-14
 enum-known-k-14 c = search needs
 
-mul-q-5 : tie.Need-mul-q-5
-mul-q-5 c = let h = inside (c .before .k14 .given .1) (c .before .before .before .pre) in search needs
-
-element-copy-out-q-5 : tie.Need-element-copy-out-q-5
-element-copy-out-q-5 c = inside (c .before .k14 .given .1) (c .before .before .before .pre)
-
-with-pattern-requires-5 : tie.Need-with-pattern-requires-5
-with-pattern-requires-5 c κs = inside (c .before .before .k14 .given .1) (c .before .before .before .before .pre)
+write-mask-requires : tie.Need-write-mask-requires
+write-mask-requires c κs = inside (c .before .k14 .given .1) (c .before .before .before .pre)
 
 enum-told-5 : tie.Need-enum-told-5
 enum-told-5 c = search needs
@@ -193,23 +163,23 @@ returns-13 c = simp (c .enum-told4 .given .1)
 
 returns-14 : tie.Need-returns-14
 unfolding writtenOf
-returns-14 c = simp (c .before .before .before .k10 .given .1, c .with-pattern .ensures)
+returns-14 c = simp (c .before .before .k10 .given .1, c .write-port-mode .ensures)
 
 returns-15 : tie.Need-returns-15
 unfolding writtenOf
-returns-15 c = simp (c .before .before .before .k11 .given .1, c .with-pattern2 .ensures)
+returns-15 c = simp (c .before .before .k11 .given .1, c .write-handshake .ensures)
 
 returns-16 : tie.Need-returns-16
 unfolding writtenOf
-returns-16 c = simp (c .before .before .before .k12 .given .1, c .with-pattern3 .ensures)
+returns-16 c = simp (c .before .before .k12 .given .1, c .write-pattern-polarity .ensures)
 
 returns-17 : tie.Need-returns-17
 unfolding writtenOf
-returns-17 c = simp (c .before .before .before .k13 .given .1, c .with-pattern4 .ensures)
+returns-17 c = simp (c .before .before .k13 .given .1, c .write-transition .ensures)
 
 returns-18 : tie.Need-returns-18
 unfolding writtenOf
-returns-18 c = simp (c .before .before .before .k14 .given .1, c .with-pattern5 .ensures)
+returns-18 c = simp (c .before .before .k14 .given .1, c .write-mask .ensures)
 
 returns-19 : tie.Need-returns-19
 unfolding writtenOf
@@ -244,25 +214,15 @@ write-kind-spec =
     write-mode-requires
     enum-told-4
     enum-known-k-10
-    mul-q
-    element-copy-out-q
-    with-pattern-requires
+    write-port-mode-requires
     enum-known-k-11
-    mul-q-2
-    element-copy-out-q-2
-    with-pattern-requires-2
+    write-handshake-requires
     enum-known-k-12
-    mul-q-3
-    element-copy-out-q-3
-    with-pattern-requires-3
+    write-pattern-polarity-requires
     enum-known-k-13
-    mul-q-4
-    element-copy-out-q-4
-    with-pattern-requires-4
+    write-transition-requires
     enum-known-k-14
-    mul-q-5
-    element-copy-out-q-5
-    with-pattern-requires-5
+    write-mask-requires
     enum-told-5
     returns
     returns-2

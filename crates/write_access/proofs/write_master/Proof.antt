@@ -1,5 +1,4 @@
 use native.Mathlib.Nat.{div-one}
-use borrow.Author.Tests.{eq-eqb, ne-eqb}
 use Rattle.rules.specs.Access.{masterWritten}
 use borrow.Author.Needs.{needs}
 use Rattle.write_access.proofs.write_master.Statement.{statement}
@@ -10,11 +9,11 @@ reset-requires c κs = search needs
 
 returns : tie.Need-returns
 unfolding masterWritten
-returns c = simp (c .reset .ensures, div-one, eq-eqb _ _ (c .before .if1 .taken))
+returns c = simp (c .reset .ensures, div-one, c .before .if1 .taken)
 
 returns-2 : tie.Need-returns-2
 unfolding masterWritten
-returns-2 c = simp (div-one, ne-eqb _ _ (c .if1 .left))
+returns-2 c = simp (div-one, c .if1 .left)
 
 pub write-master-spec : {M : Type 1} → statement M
 write-master-spec = tie.close (tie.spec reset-requires returns returns-2)

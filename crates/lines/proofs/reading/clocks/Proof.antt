@@ -23,21 +23,26 @@ shared-slice-read-if3 c = search needs
 
 returns-3 : tie.Need-returns-3
 returns-3 c =
-    let e = c .before .before .before .before in
-    let s = now (e .before .before .args .s) in
-    sym (clocks-at s (e .if1 .left) ∙ (simp (plain-at s (e .if1 .left), c .if3 .taken, eq-eqb _ _ (c .before .before .if2 .left))))
+    let at-space = c .before .before in
+    let at-length = at-space .before .before in
+    let s = now (at-length .before .before .args .s) in
+    let long = at-length .if1 .left in
+    sym (clocks-at s long ∙ (simp (plain-at s long, c .if3 .taken, eq-eqb _ _ (at-space .if2 .left))))
 
 clocks-in-requires : tie.Need-clocks-in-requires
 clocks-in-requires c κs = search needs
 
 returns-4 : tie.Need-returns-4
 returns-4 c =
-    let d = c .before .before in
-    let e = d .before .before .before .before in
-    let s = now (e .before .before .args .s) in
+    let at-zero = c .before .before in
+    let at-space = at-zero .before .before in
+    let at-length = at-space .before .before in
+    let s = now (at-length .before .before .args .s) in
+    let long = at-length .if1 .left in
+    let read = c .before .clocks-in .ensures in
     sym
-    (clocks-at s (e .if1 .left)
-    ∙ (simp (plain-at s (e .if1 .left), d .if3 .left, eq-eqb _ _ (d .before .before .if2 .left), ← c .before .clocks-in .ensures, le-ltb _ 4294967296 (c .if4 .taken))))
+    (clocks-at s long
+    ∙ (simp (plain-at s long, at-zero .if3 .left, eq-eqb _ _ (at-space .if2 .left), ← read, le-ltb _ 4294967296 (c .if4 .taken))))
 
 cast-said : tie.Need-cast-said
 cast-said c = search needs
@@ -47,13 +52,17 @@ said-requires c κs = search needs
 
 returns-5 : tie.Need-returns-5
 returns-5 c =
-    let d = c .before .before .before in
-    let e = d .before .before .before .before in
-    let s = now (e .before .before .args .s) in
+    let at-read = c .before .before in
+    let at-zero = at-read .before in
+    let at-space = at-zero .before .before in
+    let at-length = at-space .before .before in
+    let s = now (at-length .before .before .args .s) in
+    let long = at-length .if1 .left in
+    let small = lt-ltb (at-read .clocks-in .result) 4294967296 (omega arith) in
     c .said .ensures
     ∙ sym
-    (clocks-at s (e .if1 .left)
-    ∙ (simp (plain-at s (e .if1 .left), d .if3 .left, eq-eqb _ _ (d .before .before .if2 .left), ← c .before .before .clocks-in .ensures, lt-ltb (c .before .before .clocks-in .result) 4294967296 (omega arith))))
+    (clocks-at s long
+    ∙ (simp (plain-at s long, at-zero .if3 .left, eq-eqb _ _ (at-space .if2 .left), ← at-read .clocks-in .ensures, small)))
 
 pub clocks-spec : {M : Type 1} → statement M
 clocks-spec =

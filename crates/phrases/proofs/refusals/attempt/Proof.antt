@@ -1,6 +1,6 @@
 use borrow.Author.Needs.{needs}
 use Rattle.phrases.specs.Refusals.{attempt}
-use Rattle.phrases.specs.Spelled.{spelled}
+use Rattle.texts.specs.Spelled.{spelled}
 use Rattle.phrases.proofs.refusals.attempt.Statement.{statement}
 use Rattle.phrases.proofs.refusals.attempt.Tie as tie
 

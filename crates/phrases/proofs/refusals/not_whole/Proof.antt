@@ -1,12 +1,18 @@
 use borrow.Author.Needs.{needs}
-use borrow.Author.Tests.{lt-ltb, le-ltb}
+use Rattle.texts.proofs.Typing.{typed-append}
+use Rattle.texts.specs.Spelled.{spelled}
 use Rattle.phrases.specs.Refusals.{notWhole}
-use Rattle.phrases.specs.Spelled.{spelled}
 use Rattle.phrases.proofs.refusals.not_whole.Statement.{statement}
 use Rattle.phrases.proofs.refusals.not_whole.Tie as tie
 
-no-text-requires : tie.Need-no-text-requires
-no-text-requires c κs = search needs
+side-requires : tie.Need-side-requires
+side-requires c κs = search needs
+
+cast-decimal : tie.Need-cast-decimal
+cast-decimal c = search needs
+
+decimal-requires : tie.Need-decimal-requires
+decimal-requires c κs = search needs
 
 slice-aggregate-word : tie.Need-slice-aggregate-word
 slice-aggregate-word c = search needs
@@ -16,26 +22,17 @@ word-requires c κs = search needs
 
 returns : tie.Need-returns
 unfolding notWhole spelled
-returns c = simp (c .word .ensures, lt-ltb _ _ (c .before .before .if1 .taken), c .before .before .before .no-text .ensures)
-
-slice-aggregate-word-2 : tie.Need-slice-aggregate-word-2
-slice-aggregate-word-2 c = search needs
-
-word-requires-2 : tie.Need-word-requires-2
-word-requires-2 c κs = search needs
-
-returns-2 : tie.Need-returns-2
-unfolding notWhole spelled
-returns-2 c = simp (c .word2 .ensures, le-ltb _ _ (c .before .before .if1 .left), c .before .before .before .no-text .ensures)
+returns c =
+    let at-length = c .before .before in
+    simp (typed-append, c .word .ensures, at-length .decimal .ensures, at-length .before .side .ensures)
 
 pub not-whole-spec : {M : Type 1} → statement M
 not-whole-spec =
     tie.close
     (tie.spec
-    no-text-requires
+    side-requires
+    cast-decimal
+    decimal-requires
     slice-aggregate-word
     word-requires
-    returns
-    slice-aggregate-word-2
-    word-requires-2
-    returns-2)
+    returns)

@@ -1,7 +1,7 @@
 use borrow.Author.Needs.{needs}
 use borrow.Author.Tests.{ne-eqb}
 use Rattle.phrases.specs.Refusals.{reason}
-use Rattle.phrases.specs.Spelled.{spelled}
+use Rattle.texts.specs.Spelled.{spelled}
 use Rattle.phrases.proofs.refusals.reason.Statement.{statement}
 use Rattle.phrases.proofs.refusals.reason.Tie as tie
 
@@ -63,7 +63,16 @@ returns-5 c = simp (c .word5 .ensures, c .before .before .match .keys5)
 
 returns-6 : tie.Need-returns-6
 unfolding reason spelled
-returns-6 c = simp (c .word6 .ensures, ne-eqb _ _ (c .before .before .match .rest .1), ne-eqb _ _ (c .before .before .match .rest .0 .1), ne-eqb _ _ (c .before .before .match .rest .0 .0 .1), ne-eqb _ _ (c .before .before .match .rest .0 .0 .0 .1), ne-eqb _ _ (c .before .before .match .rest .0 .0 .0 .0 .1))
+returns-6 c =
+    let other = c .before .before .match .rest in
+    simp (
+      c .word6 .ensures,
+      ne-eqb _ _ (other .1),
+      ne-eqb _ _ (other .0 .1),
+      ne-eqb _ _ (other .0 .0 .1),
+      ne-eqb _ _ (other .0 .0 .0 .1),
+      ne-eqb _ _ (other .0 .0 .0 .0 .1),
+    )
 
 pub reason-spec : {M : Type 1} → statement M
 reason-spec =

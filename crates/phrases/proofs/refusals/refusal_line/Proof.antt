@@ -1,7 +1,7 @@
 use borrow.Author.Needs.{needs}
 use borrow.Author.Tests.{ne-eqb}
 use Rattle.phrases.specs.Refusals.{refusal}
-use Rattle.phrases.specs.Spelled.{spelled}
+use Rattle.texts.specs.Spelled.{spelled}
 use Rattle.phrases.proofs.refusals.refusal_line.Statement.{statement}
 use Rattle.phrases.proofs.refusals.refusal_line.Tie as tie
 

@@ -32,30 +32,36 @@ flag-requires c κs = search needs
 flag-requires-2 : tie.Need-flag-requires-2
 flag-requires-2 c κs = search needs
 
-array-read-count : tie.Need-array-read-count
-array-read-count c = search needs
-
-count-requires : tie.Need-count-requires
-count-requires c κs = search needs
-
-array-read-count-2 : tie.Need-array-read-count-2
-array-read-count-2 c = search needs
-
-count-requires-2 : tie.Need-count-requires-2
-count-requires-2 c κs = search needs
-
-array-read-count-3 : tie.Need-array-read-count-3
-array-read-count-3 c = search needs
-
-count-requires-3 : tie.Need-count-requires-3
-count-requires-3 c κs = search needs
+report-requires : tie.Need-report-requires
+report-requires c κs = search needs
 
 push-requires : tie.Need-push-requires
 push-requires c κs = search needs
 
 returns : tie.Need-returns
 unfolding typed answerText
-returns c = simp (typed-append, c .push .ensures, c .before .count3 .ensures, c .before .before .count2 .ensures, c .before .before .before .count .ensures, c .before .before .before .before .flag2 .ensures, c .before .before .before .before .before .flag .ensures, c .before .before .before .before .before .before .nibble .ensures, c .before .before .before .before .before .before .before .hex3 .ensures, c .before .before .before .before .before .before .before .before .hex2 .ensures, c .before .before .before .before .before .before .before .before .before .hex .ensures, c .before .before .before .before .before .before .before .before .before .before .decimal .ensures, c .before .before .before .before .before .before .before .before .before .before .before .before .no-text .ensures)
+returns c =
+    let at-report = c .before in
+    let at-ieo = at-report .before in
+    let at-int = at-ieo .before in
+    let at-c = at-int .before in
+    let at-b = at-c .before in
+    let at-a = at-b .before in
+    let at-value = at-a .before in
+    let at-code = at-value .before in
+    simp (
+      typed-append,
+      c .push .ensures,
+      at-report .report .ensures,
+      at-ieo .flag2 .ensures,
+      at-int .flag .ensures,
+      at-c .nibble .ensures,
+      at-b .hex3 .ensures,
+      at-a .hex2 .ensures,
+      at-value .hex .ensures,
+      at-code .decimal .ensures,
+      at-code .before .before .no-text .ensures,
+    )
 
 pub answer-text-spec : {M : Type 1} → statement M
 answer-text-spec =
@@ -70,11 +76,6 @@ answer-text-spec =
     nibble-requires
     flag-requires
     flag-requires-2
-    array-read-count
-    count-requires
-    array-read-count-2
-    count-requires-2
-    array-read-count-3
-    count-requires-3
+    report-requires
     push-requires
     returns)

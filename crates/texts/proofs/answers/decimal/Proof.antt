@@ -43,7 +43,29 @@ push-requires c κs = search needs
 
 returns : tie.Need-returns
 unfolding typed decimalText
-returns c = simp (typed-append, c .push .ensures, c .before .place9 .ensures, c .before .before .place8 .ensures, c .before .before .before .place7 .ensures, c .before .before .before .before .place6 .ensures, c .before .before .before .before .before .place5 .ensures, c .before .before .before .before .before .before .place4 .ensures, c .before .before .before .before .before .before .before .place3 .ensures, c .before .before .before .before .before .before .before .before .place2 .ensures, c .before .before .before .before .before .before .before .before .before .place .ensures)
+returns c =
+    let at1 = c .before in
+    let at2 = at1 .before in
+    let at3 = at2 .before in
+    let at4 = at3 .before in
+    let at5 = at4 .before in
+    let at6 = at5 .before in
+    let at7 = at6 .before in
+    let at8 = at7 .before in
+    let at9 = at8 .before in
+    simp (
+      typed-append,
+      c .push .ensures,
+      at1 .place9 .ensures,
+      at2 .place8 .ensures,
+      at3 .place7 .ensures,
+      at4 .place6 .ensures,
+      at5 .place5 .ensures,
+      at6 .place4 .ensures,
+      at7 .place3 .ensures,
+      at8 .place2 .ensures,
+      at9 .place .ensures,
+    )
 
 pub decimal-spec : {M : Type 1} → statement M
 decimal-spec =

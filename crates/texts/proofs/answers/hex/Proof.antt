@@ -21,7 +21,10 @@ push-requires-3 c κs = search needs
 
 returns : tie.Need-returns
 unfolding typed hexText
-returns c = simp (c .push3 .ensures, c .before .glyph2 .ensures, c .before .before .push2 .ensures, c .before .before .before .glyph .ensures, c .before .before .before .before .push .ensures)
+returns c =
+    let at-low = c .before in
+    let at-high = at-low .before .before in
+    simp (c .push3 .ensures, at-low .glyph2 .ensures, at-low .before .push2 .ensures, at-high .glyph .ensures, at-high .before .push .ensures)
 
 pub hex-spec : {M : Type 1} → statement M
 hex-spec =

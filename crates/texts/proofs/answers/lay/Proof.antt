@@ -4,16 +4,16 @@ use native.Mathlib.Omega.{arith}
 use borrow.Author.Needs.{needs}
 use lib.ListN.{length}
 use lib.Seq.{length-take-le}
-use Rattle.texts.specs.Kept.{bytesOf}
+use Rattle.texts.specs.Kept.{textRoom, bytesOf}
 use Rattle.texts.proofs.answers.lay.Statement.{statement}
 use Rattle.texts.proofs.answers.lay.Tie as tie
 
-eighty : (c : tie.Start) → length (c .args .t .bytes) ≡ 80
-eighty c = search needs
+roomy : (c : tie.Start) → length (c .args .t .bytes) ≡ textRoom
+roomy c = search needs
 
 within : (c : tie.After-kept-len) → c .kept-len .result ≤ length (c .before .before .args .t .bytes)
 within c =
-    let z = eighty (c .before .before) in
+    let z = roomy (c .before .before) in
     let m = c .kept-len .ensures .1 in omega arith
 
 kept-len-requires : tie.Need-kept-len-requires

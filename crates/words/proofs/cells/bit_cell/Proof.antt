@@ -1,36 +1,15 @@
 use borrow.Author.Needs.{needs}
+use Rattle.texts.specs.Spelled.{spelled}
 use Rattle.words.specs.Cells.{bitCell}
-use Rattle.phrases.specs.Spelled.{spelled}
 use Rattle.words.proofs.cells.bit_cell.Statement.{statement}
 use Rattle.words.proofs.cells.bit_cell.Tie as tie
 
-slice-aggregate-word : tie.Need-slice-aggregate-word
-slice-aggregate-word c = search needs
-
-word-requires : tie.Need-word-requires
-word-requires c κs = search needs
+either-requires : tie.Need-either-requires
+either-requires c κs = search needs
 
 returns : tie.Need-returns
 unfolding bitCell spelled
-returns c = simp (c .word .ensures, c .before .before .if1 .taken)
-
-slice-aggregate-word-2 : tie.Need-slice-aggregate-word-2
-slice-aggregate-word-2 c = search needs
-
-word-requires-2 : tie.Need-word-requires-2
-word-requires-2 c κs = search needs
-
-returns-2 : tie.Need-returns-2
-unfolding bitCell spelled
-returns-2 c = simp (c .word2 .ensures, c .before .before .if1 .left)
+returns c = c .either .ensures
 
 pub bit-cell-spec : {M : Type 1} → statement M
-bit-cell-spec =
-    tie.close
-    (tie.spec
-    slice-aggregate-word
-    word-requires
-    returns
-    slice-aggregate-word-2
-    word-requires-2
-    returns-2)
+bit-cell-spec = tie.close (tie.spec either-requires returns)

@@ -1,7 +1,7 @@
 use borrow.Author.Needs.{needs}
 use Rattle.texts.specs.Kept.{typed}
 use Rattle.words.specs.Cells.{byteCell}
-use Rattle.phrases.specs.Spelled.{spelled}
+use Rattle.texts.specs.Spelled.{spelled}
 use Rattle.words.proofs.cells.byte_cell.Statement.{statement}
 use Rattle.words.proofs.cells.byte_cell.Tie as tie
 

@@ -1,11 +1,11 @@
 use borrow.Author.Needs.{needs}
 use borrow.Author.Tests.{lt-ltb, le-ltb}
-use Rattle.words.specs.Cells.{placed}
+use Rattle.words.specs.Cells.{digitOrSpace}
 use Rattle.words.proofs.cells.digit.Statement.{statement}
 use Rattle.words.proofs.cells.digit.Tie as tie
 
 returns : tie.Need-returns
-unfolding placed
+unfolding digitOrSpace
 returns c = simp (lt-ltb _ _ (c .if1 .taken))
 
 div-result : tie.Need-div-result
@@ -18,7 +18,7 @@ add-result : tie.Need-add-result
 add-result c = search needs
 
 returns-2 : tie.Need-returns-2
-unfolding placed
+unfolding digitOrSpace
 returns-2 c = simp (le-ltb _ _ (c .if1 .left))
 
 pub digit-spec : {M : Type 1} → statement M

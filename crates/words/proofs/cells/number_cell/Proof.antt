@@ -1,7 +1,7 @@
 use borrow.Author.Needs.{needs}
 use Rattle.texts.specs.Kept.{typed}
 use Rattle.words.specs.Cells.{numberCell}
-use Rattle.phrases.specs.Spelled.{spelled}
+use Rattle.texts.specs.Spelled.{spelled}
 use Rattle.words.proofs.cells.number_cell.Statement.{statement}
 use Rattle.words.proofs.cells.number_cell.Tie as tie
 
@@ -46,7 +46,23 @@ push-requires-5 c κs = search needs
 
 returns : tie.Need-returns
 unfolding typed numberCell spelled
-returns c = simp (c .push5 .ensures, c .before .push4 .ensures, c .before .before .digit4 .ensures, c .before .before .before .push3 .ensures, c .before .before .before .before .digit3 .ensures, c .before .before .before .before .before .push2 .ensures, c .before .before .before .before .before .before .digit2 .ensures, c .before .before .before .before .before .before .before .push .ensures, c .before .before .before .before .before .before .before .before .digit .ensures, c .before .before .before .before .before .before .before .before .before .word .ensures)
+returns c =
+    let at10 = c .before in
+    let at100 = at10 .before .before in
+    let at1000 = at100 .before .before in
+    let at10000 = at1000 .before .before in
+    simp (
+      c .push5 .ensures,
+      at10 .push4 .ensures,
+      at10 .before .digit4 .ensures,
+      at100 .push3 .ensures,
+      at100 .before .digit3 .ensures,
+      at1000 .push2 .ensures,
+      at1000 .before .digit2 .ensures,
+      at10000 .push .ensures,
+      at10000 .before .digit .ensures,
+      at10000 .before .before .word .ensures,
+    )
 
 pub number-cell-spec : {M : Type 1} → statement M
 number-cell-spec =

@@ -1,7 +1,7 @@
 use borrow.Author.Needs.{needs}
 use Rattle.texts.specs.Kept.{typed}
 use Rattle.words.specs.Shown.{counterLine}
-use Rattle.phrases.specs.Spelled.{spelled}
+use Rattle.texts.specs.Spelled.{spelled}
 use Rattle.texts.proofs.Typing.{typed-append}
 use Rattle.words.proofs.counters_shown.counter_line.Statement.{statement}
 use Rattle.words.proofs.counters_shown.counter_line.Tie as tie
@@ -26,7 +26,11 @@ push-requires c κs = search needs
 
 returns : tie.Need-returns
 unfolding typed counterLine spelled
-returns c = simp (typed-append, c .push .ensures, c .before .counter-column3 .ensures, c .before .before .counter-column2 .ensures, c .before .before .before .counter-column .ensures, c .before .before .before .before .label .ensures)
+returns c =
+    let at3 = c .before in
+    let at2 = at3 .before in
+    let at1 = at2 .before in
+    simp (typed-append, c .push .ensures, at3 .counter-column3 .ensures, at2 .counter-column2 .ensures, at1 .counter-column .ensures, at1 .before .label .ensures)
 
 pub counter-line-spec : {M : Type 1} → statement M
 counter-line-spec =

@@ -1,6 +1,6 @@
 use borrow.Author.Needs.{needs}
 use Rattle.words.specs.Shown.{frozenCell}
-use Rattle.phrases.specs.Spelled.{spelled}
+use Rattle.texts.specs.Spelled.{spelled}
 use Rattle.words.proofs.counters_shown.frozen_cell.Statement.{statement}
 use Rattle.words.proofs.counters_shown.frozen_cell.Tie as tie
 

@@ -1,7 +1,7 @@
 use borrow.Author.Needs.{needs}
 use borrow.Author.Tests.{ne-eqb}
 use Rattle.words.specs.Shown.{modeCell}
-use Rattle.phrases.specs.Spelled.{spelled}
+use Rattle.texts.specs.Spelled.{spelled}
 use Rattle.words.proofs.counters_shown.mode_cell.Statement.{statement}
 use Rattle.words.proofs.counters_shown.mode_cell.Tie as tie
 

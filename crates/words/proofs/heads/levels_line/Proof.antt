@@ -1,7 +1,7 @@
 use borrow.Author.Needs.{needs}
 use Rattle.texts.specs.Kept.{typed}
 use Rattle.words.specs.Shown.{levelsLine}
-use Rattle.phrases.specs.Spelled.{spelled}
+use Rattle.texts.specs.Spelled.{spelled}
 use Rattle.texts.proofs.Typing.{typed-append}
 use Rattle.words.proofs.heads.levels_line.Statement.{statement}
 use Rattle.words.proofs.heads.levels_line.Tie as tie
@@ -44,7 +44,23 @@ push-requires c κs = search needs
 
 returns : tie.Need-returns
 unfolding typed levelsLine spelled
-returns c = simp (typed-append, c .push .ensures, c .before .named4 .ensures, c .before .before .before .named3 .ensures, c .before .before .before .before .before .named2 .ensures, c .before .before .before .before .before .before .before .named .ensures, c .before .before .before .before .before .before .before .before .before .no-text .ensures, c .before .before .before .before .before .before .before .before .before .before .ieo .ensures, c .before .before .before .before .before .before .before .before .before .before .before .int .ensures)
+returns c =
+    let at-phase = c .before in
+    let at-iei = at-phase .before .before in
+    let at-ieo = at-iei .before .before in
+    let at-int = at-ieo .before .before in
+    let at-none = at-int .before .before in
+    simp (
+      typed-append,
+      c .push .ensures,
+      at-phase .named4 .ensures,
+      at-iei .named3 .ensures,
+      at-ieo .named2 .ensures,
+      at-int .named .ensures,
+      at-none .no-text .ensures,
+      at-none .before .ieo .ensures,
+      at-none .before .before .int .ensures,
+    )
 
 pub levels-line-spec : {M : Type 1} → statement M
 levels-line-spec =

@@ -1,7 +1,7 @@
 use borrow.Author.Needs.{needs}
 use borrow.Author.Tests.{ne-eqb}
 use Rattle.words.specs.Shown.{linkLine}
-use Rattle.phrases.specs.Spelled.{spelled}
+use Rattle.texts.specs.Spelled.{spelled}
 use Rattle.words.proofs.heads.link_line.Statement.{statement}
 use Rattle.words.proofs.heads.link_line.Tie as tie
 
@@ -46,7 +46,15 @@ returns-3 c = simp (c .word3 .ensures, c .before .before .match .keys3, c .befor
 
 returns-4 : tie.Need-returns-4
 unfolding linkLine spelled
-returns-4 c = simp (c .word4 .ensures, ne-eqb _ _ (c .before .before .match .rest .1), ne-eqb _ _ (c .before .before .match .rest .0 .1), ne-eqb _ _ (c .before .before .match .rest .0 .0 .1), c .before .before .before .no-text .ensures)
+returns-4 c =
+    let other = c .before .before .match .rest in
+    simp (
+      c .word4 .ensures,
+      ne-eqb _ _ (other .1),
+      ne-eqb _ _ (other .0 .1),
+      ne-eqb _ _ (other .0 .0 .1),
+      c .before .before .before .no-text .ensures,
+    )
 
 pub link-line-spec : {M : Type 1} → statement M
 link-line-spec =

@@ -1,7 +1,7 @@
 use borrow.Author.Needs.{needs}
 use borrow.Author.Tests.{ne-eqb}
 use Rattle.words.specs.Shown.{requestLine}
-use Rattle.phrases.specs.Spelled.{spelled}
+use Rattle.texts.specs.Spelled.{spelled}
 use Rattle.words.proofs.heads.request_line.Statement.{statement}
 use Rattle.words.proofs.heads.request_line.Tie as tie
 
@@ -66,7 +66,17 @@ returns-5 c = simp (c .word5 .ensures, c .before .before .match .keys5, c .befor
 
 returns-6 : tie.Need-returns-6
 unfolding requestLine spelled
-returns-6 c = simp (c .word6 .ensures, ne-eqb _ _ (c .before .before .match .rest .1), ne-eqb _ _ (c .before .before .match .rest .0 .1), ne-eqb _ _ (c .before .before .match .rest .0 .0 .1), ne-eqb _ _ (c .before .before .match .rest .0 .0 .0 .1), ne-eqb _ _ (c .before .before .match .rest .0 .0 .0 .0 .1), c .before .before .before .no-text .ensures)
+returns-6 c =
+    let other = c .before .before .match .rest in
+    simp (
+      c .word6 .ensures,
+      ne-eqb _ _ (other .1),
+      ne-eqb _ _ (other .0 .1),
+      ne-eqb _ _ (other .0 .0 .1),
+      ne-eqb _ _ (other .0 .0 .0 .1),
+      ne-eqb _ _ (other .0 .0 .0 .0 .1),
+      c .before .before .before .no-text .ensures,
+    )
 
 pub request-line-spec : {M : Type 1} → statement M
 request-line-spec =

@@ -37,7 +37,15 @@ returns-4 c = simp (c .byte-cell3 .ensures, c .before .match .keys4)
 
 returns-5 : tie.Need-returns-5
 unfolding patternCell
-returns-5 c = simp (c .bit-cell .ensures, ne-eqb _ _ (c .before .match .rest .1), ne-eqb _ _ (c .before .match .rest .0 .1), ne-eqb _ _ (c .before .match .rest .0 .0 .1), ne-eqb _ _ (c .before .match .rest .0 .0 .0 .1))
+returns-5 c =
+    let other = c .before .match .rest in
+    simp (
+      c .bit-cell .ensures,
+      ne-eqb _ _ (other .1),
+      ne-eqb _ _ (other .0 .1),
+      ne-eqb _ _ (other .0 .0 .1),
+      ne-eqb _ _ (other .0 .0 .0 .1),
+    )
 
 pub pattern-cell-spec : {M : Type 1} → statement M
 pattern-cell-spec =

@@ -1,7 +1,7 @@
 use borrow.Author.Needs.{needs}
 use Rattle.texts.specs.Kept.{typed}
 use Rattle.words.specs.Shown.{patternLine}
-use Rattle.phrases.specs.Spelled.{spelled}
+use Rattle.texts.specs.Spelled.{spelled}
 use Rattle.texts.proofs.Typing.{typed-append}
 use Rattle.words.proofs.ports_shown.pattern_line.Statement.{statement}
 use Rattle.words.proofs.ports_shown.pattern_line.Tie as tie

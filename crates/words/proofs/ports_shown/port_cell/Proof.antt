@@ -63,7 +63,17 @@ returns-6 c = simp (c .byte-cell5 .ensures, c .before .pins-at .ensures, c .befo
 
 returns-7 : tie.Need-returns-7
 unfolding portCell
-returns-7 c = simp (c .byte-cell6 .ensures, ne-eqb _ _ (c .before .match .rest .1), ne-eqb _ _ (c .before .match .rest .0 .1), ne-eqb _ _ (c .before .match .rest .0 .0 .1), ne-eqb _ _ (c .before .match .rest .0 .0 .0 .1), ne-eqb _ _ (c .before .match .rest .0 .0 .0 .0 .1), ne-eqb _ _ (c .before .match .rest .0 .0 .0 .0 .0 .1))
+returns-7 c =
+    let other = c .before .match .rest in
+    simp (
+      c .byte-cell6 .ensures,
+      ne-eqb _ _ (other .1),
+      ne-eqb _ _ (other .0 .1),
+      ne-eqb _ _ (other .0 .0 .1),
+      ne-eqb _ _ (other .0 .0 .0 .1),
+      ne-eqb _ _ (other .0 .0 .0 .0 .1),
+      ne-eqb _ _ (other .0 .0 .0 .0 .0 .1),
+    )
 
 pub port-cell-spec : {M : Type 1} → statement M
 port-cell-spec =

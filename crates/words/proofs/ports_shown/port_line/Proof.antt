@@ -1,7 +1,7 @@
 use borrow.Author.Needs.{needs}
 use Rattle.texts.specs.Kept.{typed}
 use Rattle.words.specs.Shown.{portLine}
-use Rattle.phrases.specs.Spelled.{spelled}
+use Rattle.texts.specs.Spelled.{spelled}
 use Rattle.texts.proofs.Typing.{typed-append}
 use Rattle.words.proofs.ports_shown.port_line.Statement.{statement}
 use Rattle.words.proofs.ports_shown.port_line.Tie as tie
@@ -26,7 +26,11 @@ push-requires c κs = search needs
 
 returns : tie.Need-returns
 unfolding typed portLine spelled
-returns c = simp (typed-append, c .push .ensures, c .before .port-cell3 .ensures, c .before .before .port-cell2 .ensures, c .before .before .before .port-cell .ensures, c .before .before .before .before .label .ensures)
+returns c =
+    let at3 = c .before in
+    let at2 = at3 .before in
+    let at1 = at2 .before in
+    simp (typed-append, c .push .ensures, at3 .port-cell3 .ensures, at2 .port-cell2 .ensures, at1 .port-cell .ensures, at1 .before .label .ensures)
 
 pub port-line-spec : {M : Type 1} → statement M
 port-line-spec =

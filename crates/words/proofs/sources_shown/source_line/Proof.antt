@@ -1,7 +1,7 @@
 use borrow.Author.Needs.{needs}
 use Rattle.texts.specs.Kept.{typed}
 use Rattle.words.specs.Shown.{sourceLine}
-use Rattle.phrases.specs.Spelled.{spelled}
+use Rattle.texts.specs.Spelled.{spelled}
 use Rattle.texts.proofs.Typing.{typed-append}
 use Rattle.words.proofs.sources_shown.source_line.Statement.{statement}
 use Rattle.words.proofs.sources_shown.source_line.Tie as tie
@@ -47,7 +47,22 @@ push-requires c κs = search needs
 
 returns : tie.Need-returns
 unfolding typed sourceLine spelled
-returns c = simp (typed-append, c .push .ensures, c .before .source-cell5 .ensures, c .before .before .source-cell4 .ensures, c .before .before .before .source-cell3 .ensures, c .before .before .before .before .source-cell2 .ensures, c .before .before .before .before .before .source-cell .ensures, c .before .before .before .before .before .before .label .ensures)
+returns c =
+    let at4 = c .before in
+    let at3 = at4 .before in
+    let at2 = at3 .before in
+    let at1 = at2 .before in
+    let at0 = at1 .before in
+    simp (
+      typed-append,
+      c .push .ensures,
+      at4 .source-cell5 .ensures,
+      at3 .source-cell4 .ensures,
+      at2 .source-cell3 .ensures,
+      at1 .source-cell2 .ensures,
+      at0 .source-cell .ensures,
+      at0 .before .label .ensures,
+    )
 
 pub source-line-spec : {M : Type 1} → statement M
 source-line-spec =

@@ -1,0 +1,12 @@
+-- tests, and what truth tables show
+pub mod Tests
+pub mod Truth
+-- lists and their places
+pub mod Lists
+pub mod Places
+pub mod Tabled
+-- a function again and again
+pub mod Iterate
+-- bits of a byte, and bytes in a buffer
+pub mod Laws
+pub mod Laying

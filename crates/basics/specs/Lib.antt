@@ -1,0 +1,4 @@
+pub mod Signs
+pub mod Byte
+pub mod Buffer
+pub mod Iterate

@@ -1,5 +1,0 @@
-pub mod Truth
-pub mod Laws
-pub mod Tabled
-pub mod Laying
-pub mod Arrays

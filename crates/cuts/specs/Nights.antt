@@ -1,0 +1,16 @@
+-- A night: the record is saved into the host's buffer in the evening, and restored in the morning from the bytes that the save wrote.
+-- Assumes nothing.
+use Prim.Native.Nat.{ℕ, _≤_}
+use mathlib.Core.List.{List}
+use lib.ListN.{length, take}
+use Rattle.rules.specs.declared.Device.{Device}
+use Rattle.bodies.specs.Layout.{layoutOf, lengthOf}
+use Rattle.image.specs.Image.{savedOf, restoredOf}
+
+-- a buffer that has room for the image of any record
+abbrev pub Roomy : List ℕ → Type 0
+Roomy buffer = (d : Device) → lengthOf (layoutOf d) ≤ length buffer
+
+-- the record in the morning: what is restored from the bytes that the save wrote
+unfoldable pub nightOf : List ℕ → Device → Device
+nightOf buffer d = restoredOf (take (lengthOf (layoutOf d)) (savedOf d buffer)) .device

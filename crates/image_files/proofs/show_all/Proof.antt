@@ -1,0 +1,48 @@
+-- `show_all` is safe, and ends.
+-- Assumes nothing.
+use Prim.Native.Nat.{_-_, _≤_}
+use native.Mathlib.Omega.{arith}
+use Rattle.words.specs.Shown.{shownCount}
+use Rattle.image_files.proofs.show_all.Statement.{statement}
+use Rattle.image_files.proofs.show_all.Tie as tie
+
+abbrev Inv-loop : tie.InvT-loop
+Inv-loop d out n₀ n = n ≤ shownCount
+
+abbrev μ-loop : tie.MeasureT-loop
+μ-loop d out n₀ n = shownCount - n
+
+loop-holds : tie.Need-loop-holds Inv-loop μ-loop
+loop-holds c = omega arith
+
+line-requires : tie.Need-line-requires Inv-loop μ-loop
+line-requires c κs = tt
+
+print-requires : tie.Need-print-requires Inv-loop μ-loop
+print-requires c κs = tt
+
+add-n : tie.Need-add-n Inv-loop μ-loop
+add-n c = omega arith
+
+loop-less : tie.Need-loop-less Inv-loop μ-loop
+loop-less c = omega arith
+
+loop-again : tie.Need-loop-again Inv-loop μ-loop
+loop-again c = omega arith
+
+returns : tie.Need-returns Inv-loop μ-loop
+returns c = tt
+
+pub show-all-spec : {M : Type 1} → statement M
+show-all-spec =
+    tie.close
+    (tie.spec
+    Inv-loop
+    μ-loop
+    loop-holds
+    line-requires
+    print-requires
+    add-n
+    loop-less
+    loop-again
+    returns)

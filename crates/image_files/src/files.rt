@@ -1,0 +1,204 @@
+// Image files. A file is replaced whole or not at all: the image goes to a new file beside it, is written out to the
+// disk, and then takes its name.
+ghost use mathlib.Core.Bool.{true, false};
+ghost use mathlib.Core.Path.{_≡_};
+ghost use Rattle.io.specs.Counts.{Counts};
+ghost use Rattle.rules.specs.Sound.{soundOf};
+ghost use Rattle.image_files.specs.Files.{isDash, freshLoaded};
+use crate::Loaded;
+use console::print;
+use rules::Device;
+use texts::Text;
+
+// A line that begins with the file's name.
+fn say(report: i32, path: &[u8], t: Text) {
+    io::write_all(report, path);
+    print(report, t);
+}
+
+// The place of an error among those that have words of their own.
+fn why(error: i32) -> usize {
+    if error == libc::ENOENT {
+        return 0;
+    }
+    if error == libc::EACCES {
+        return 1;
+    }
+    if error == libc::EISDIR {
+        return 2;
+    }
+    if error == libc::ENOTDIR {
+        return 3;
+    }
+    if error == libc::ENOSPC {
+        return 4;
+    }
+    5
+}
+
+// What the call before this one failed at.
+pub fn trouble(report: i32, path: &[u8], writing: bool) {
+    let error = os::errno();
+    say(report, path, phrases::trouble_line(writing, why(error)));
+}
+
+fn none() -> Loaded {
+    Loaded {
+        device: Device::fresh(),
+        ok: false,
+    }
+}
+
+fn is_dash(path: &[u8]) -> bool
+    ensures { λ r. ⌜ r ≡ isDash (now (path .entry)) ⌝ }
+{
+    if path.len() != 1 {
+        return false;
+    }
+    path[0] == b'-'
+}
+
+// Nothing came of a file: whether it is empty, which a further read tells from a failure.
+fn is_empty(fd: i32) -> bool {
+    let mut more = [0u8; 1];
+    libc::read(fd, &mut more) >= 0
+}
+
+// The device of an open file. One byte more is read than an image has: then a longer file is refused too.
+fn restore_from(fd: i32, path: &[u8], report: i32) -> Loaded {
+    let mut buf = [0u8; Device::IMAGE_LEN + 1];
+    let n = io::read_full(fd, &mut buf);
+    if n == 0 {
+        if !is_empty(fd) {
+            trouble(report, path, false);
+            return none();
+        }
+    }
+    let r = image::restore(&buf[..n]);
+    if r.code != 0 {
+        say(report, path, phrases::refusal_line(r.code, n));
+        return none();
+    }
+    let d = r.device;
+    Loaded {
+        device: d,
+        ok: true,
+    }
+}
+
+// The device of an image file; a lone `-` names the fresh device.
+pub fn load(path: &[u8], report: i32) -> Loaded
+    ensures { λ r. ⌜ (isDash (now (path .entry)) ≡ true → r ≡ freshLoaded) ⌝ }
+{
+    if is_dash(path) {
+        return Loaded {
+            device: Device::fresh(),
+            ok: true,
+        };
+    }
+    let fd = os::open_read(path);
+    if fd < 0 {
+        trouble(report, path, false);
+        return none();
+    }
+    let l = restore_from(fd, path, report);
+    libc::close(fd);
+    l
+}
+
+// Byte i of the name of a new file beside another: the name, a point, and bytes that are the system's to choose.
+fn byte_beside(path: &[u8], i: usize) -> u8 {
+    if i < path.len() {
+        return path[i];
+    }
+    if i == path.len() {
+        return b'.';
+    }
+    b'X'
+}
+
+// The name of a new file beside another, and its length, or 0 where it is too long.
+fn beside(path: &[u8], name: &mut [u8]) -> usize
+    ensures { λ r. ⌜ Counts r (now (name .exit)) ⌝ }
+{
+    if name.len() < 7 {
+        return 0;
+    }
+    if name.len() - 7 < path.len() {
+        return 0;
+    }
+    let n = path.len() + 7;
+    let mut i = 0;
+    while i < n {
+        name[i] = byte_beside(path, i);
+        i += 1;
+    }
+    n
+}
+
+fn made_and_gone(name: &mut [u8], path: &[u8], report: i32) -> bool {
+    let fd = os::create_temp(name);
+    if fd < 0 {
+        trouble(report, path, true);
+        return false;
+    }
+    libc::close(fd);
+    os::unlink(name);
+    true
+}
+
+// Whether a file can be made beside this one; it is taken away again.
+pub fn can_keep(path: &[u8], report: i32) -> bool {
+    let mut name = io::buffer();
+    let n = beside(path, &mut name);
+    made_and_gone(&mut name[..n], path, report)
+}
+
+// Writes an image out to the disk.
+fn write_out(fd: i32, image: &[u8]) -> bool {
+    if !io::write_all(fd, image) {
+        return false;
+    }
+    libc::fsync(fd) == 0
+}
+
+// Puts an image into a new file, and gives that file the name.
+fn replace_by(name: &mut [u8], path: &[u8], report: i32, image: &[u8]) -> bool {
+    let fd = os::create_temp(name);
+    if fd < 0 {
+        trouble(report, path, true);
+        return false;
+    }
+    if !write_out(fd, image) {
+        trouble(report, path, true);
+        libc::close(fd);
+        os::unlink(name);
+        return false;
+    }
+    libc::close(fd);
+    if os::rename(name, path) != 0 {
+        trouble(report, path, true);
+        os::unlink(name);
+        return false;
+    }
+    true
+}
+
+fn replace(path: &[u8], report: i32, image: &[u8]) -> bool {
+    let mut name = io::buffer();
+    let n = beside(path, &mut name);
+    replace_by(&mut name[..n], path, report, image)
+}
+
+// Saves a device to an image file. Answers whether it is saved; where not, the file is as it was, and a line says why.
+pub fn keep(path: &[u8], d: Device, report: i32) -> bool
+    ensures { λ r. ⌜ (soundOf d ≡ false → r ≡ false) ⌝ }
+{
+    let mut image = [0u8; Device::IMAGE_LEN];
+    let code = image::save(d, &mut image);
+    if code != 0 {
+        say(report, path, phrases::refusal_line(code, Device::IMAGE_LEN));
+        return false;
+    }
+    replace(path, report, &image)
+}

@@ -1,0 +1,91 @@
+// The night: a device restored from an image file, a trace run on it, and the device saved again.
+mod files;
+
+use console::print;
+pub use files::keep;
+pub use files::load;
+use rules::Device;
+
+// A device, and whether there is one; where not, a line has said why.
+pub struct Loaded {
+    pub device: Device,
+    pub ok: bool,
+}
+
+fn show_all(d: Device, out: i32) {
+    let mut n = 0;
+    while n < words::LINES {
+        print(out, words::line(d, n));
+        n += 1;
+    }
+}
+
+// Prints the device of an image file in words.
+pub fn show(path: &[u8], out: i32, report: i32) {
+    let l = files::load(path, report);
+    if !l.ok {
+        return;
+    }
+    let d = l.device;
+    show_all(d, out);
+}
+
+// Restores the device of one image file, runs the trace of a descriptor on it, and saves the device to another image
+// file, which may be the same. Answers whether it is saved; where not, a line has said why.
+pub fn night(from: &[u8], to: &[u8], input: i32, answers: i32, report: i32) -> bool {
+    let l = files::load(from, report);
+    if !l.ok {
+        return false;
+    }
+    if !files::can_keep(to, report) {
+        return false;
+    }
+    let r = console::run(l.device, input, answers);
+    if !r.ok {
+        io::write_all(report, b"the answers cannot be written\n");
+        return false;
+    }
+    let e = r.device;
+    files::keep(to, e, report)
+}
+
+// As the program `show` does, by its argument.
+pub fn show_argument(out: i32, report: i32) {
+    let mut path = io::buffer();
+    let n = os::arg(1, &mut path);
+    if os::errno() != 0 {
+        io::write_all(report, b"show: the argument is IN, an image file\n");
+        return;
+    }
+    show(&path[..n], out, report);
+}
+
+// As the program `night` does, by its arguments.
+pub fn night_arguments(input: i32, answers: i32, report: i32) {
+    let mut from = io::buffer();
+    let n = os::arg(1, &mut from);
+    let no_from = os::errno() != 0;
+    let mut to = io::buffer();
+    let m = os::arg(2, &mut to);
+    let no_to = os::errno() != 0;
+    if no_from | no_to {
+        io::write_all(
+            report,
+            b"night: the arguments are IN and OUT, image files\n",
+        );
+        return;
+    }
+    night(&from[..n], &to[..m], input, answers, report);
+}
+
+// A night whose trace is a file.
+pub fn night_of(from: &[u8], to: &[u8], trace: &[u8], answers: i32, report: i32) -> bool {
+    let fd = os::open_read(trace);
+    if fd < 0 {
+        files::trouble(report, trace, false);
+        return false;
+    }
+    let ok = night(from, to, fd, answers, report);
+    libc::close(fd);
+    ok
+}

@@ -1,0 +1,32 @@
+use Rattle.bodies.specs.Taken.{recordIn}
+use Rattle.image_in.proofs.device.Statement.{statement}
+use Rattle.image_in.proofs.device.Tie as tie
+
+read-registers-requires : tie.Need-read-registers-requires
+read-registers-requires c κs = tt
+
+read-counts-requires : tie.Need-read-counts-requires
+read-counts-requires c κs = tt
+
+read-pins-requires : tie.Need-read-pins-requires
+read-pins-requires c κs = tt
+
+read-lines-requires : tie.Need-read-lines-requires
+read-lines-requires c κs = tt
+
+returns : tie.Need-returns
+unfolding recordIn
+returns c =
+    let pins = c .before in
+    let counts = pins .before in
+    simp (c .read-lines .ensures, pins .read-pins .ensures, counts .read-counts .ensures, counts .before .read-registers .ensures)
+
+pub device-spec : {M : Type 1} → statement M
+device-spec =
+    tie.close
+    (tie.spec
+    read-registers-requires
+    read-counts-requires
+    read-pins-requires
+    read-lines-requires
+    returns)

@@ -1,0 +1,86 @@
+// The vector of one source, with status and without.
+ghost use mathlib.Core.Path.{_≡_};
+ghost use Prim.Native.Nat.{_<_};
+ghost use Rattle.rules.specs.Record.{vectorAt, patternAt};
+ghost use Rattle.rules.specs.Interrupts.{vectorOf, counterStatus, portStatus, withStatus, vectorFor};
+use crate::order;
+use rules::Device;
+use rules::Pattern;
+use rules::Source;
+
+// The vector register of source k: 0 A, 1 B, 2 CT.
+fn vector_of(k: usize) -> usize
+    ensures { λ r. ⌜ (r ≡ vectorOf k) × (r < 3) ⌝ }
+{
+    if k == Source::A {
+        return 0;
+    }
+    if k == Source::B {
+        return 1;
+    }
+    2
+}
+
+// A counter's vector with status; n is 0 for CT3, 1 for CT2, 2 for CT1.
+fn counter_vector(base: u8, n: usize, err: bool) -> u8
+    ensures { λ r. ⌜ r ≡ counterStatus base n err ⌝ }
+{
+    if err {
+        return base / 8 * 8 + 6 + base % 2;
+    }
+    base / 8 * 8 + 2 * ((n % 4) as u8) + base % 2
+}
+
+// A port's vector with status.
+fn port_vector(base: u8, pmf: bool, err: bool) -> u8
+    ensures { λ r. ⌜ r ≡ portStatus base pmf err ⌝ }
+{
+    if pmf & !err {
+        return base / 16 * 16 + 2 + base % 2;
+    }
+    base / 16 * 16 + base % 2
+}
+
+// Vector v: A, B, CT, and past them 0.
+pub(crate) fn vector_at(d: Device, v: usize) -> u8
+    ensures { λ r. ⌜ r ≡ vectorAt d v ⌝ }
+{
+    if v < 3 {
+        return d.vectors[v];
+    }
+    0
+}
+
+fn pattern_at(d: Device, p: usize) -> Pattern
+    requires { ⌜ p < 2 ⌝ }
+    ensures { λ r. ⌜ r ≡ patternAt d p ⌝ }
+{
+    d.patterns[p]
+}
+
+// The vector of source k with status. Ports have the odd places.
+pub(crate) fn with_status(d: Device, k: usize) -> u8
+    requires { ⌜ k < 5 ⌝ }
+    ensures { λ r. ⌜ r ≡ withStatus d k ⌝ }
+{
+    let base = vector_at(d, vector_of(k));
+    let err = order::source_at(d, k).err;
+    let of_port = k % 2 == 1;
+    if of_port {
+        return port_vector(base, pattern_at(d, k / 2).pmf, err);
+    }
+    counter_vector(base, k / 2, err)
+}
+
+// The vector of source k, with status if its VIS says so.
+pub(crate) fn vector_for(d: Device, k: usize) -> u8
+    requires { ⌜ k < 5 ⌝ }
+    ensures { λ r. ⌜ r ≡ vectorFor d k ⌝ }
+{
+    let v = vector_of(k);
+    let vis = (d.master >> (4 - v)) % 2 == 1;
+    if vis {
+        return with_status(d, k);
+    }
+    vector_at(d, v)
+}

@@ -1,0 +1,28 @@
+use mathlib.Core.Path.{_≡_, sym}
+use native.Mathlib.Omega.{arith}
+use borrow.Author.Needs.{needs}
+use lib.ListN.{length, List·getD-eq-default}
+use Rattle.rules.specs.Record.{bare}
+use Rattle.basics.proofs.Lists.{length-mapped}
+use Rattle.levels.proofs.port_at.Statement.{statement}
+use Rattle.levels.proofs.port_at.Tie as tie
+
+three : (c : tie.Start) → length (c .args .t1 .ports) ≡ 3
+three c = search (needs, length-mapped)
+
+mul-result : tie.Need-mul-result
+mul-result c = search needs
+
+element-copy-out-result : tie.Need-element-copy-out-result
+element-copy-out-result c = search needs
+
+returns : tie.Need-returns
+returns c = search needs
+
+returns-2 : tie.Need-returns-2
+returns-2 c =
+    let a = c .before .args in
+    let z = three (c .before) in sym (List·getD-eq-default (a .t1 .ports) (bare 0) {n = a .p} (omega arith))
+
+pub port-at-spec : {M : Type 1} → statement M
+port-at-spec = tie.close (tie.spec mul-result element-copy-out-result returns returns-2)

@@ -1,0 +1,58 @@
+use borrow.Author.Tests.{ne-eqb}
+use Rattle.rules.specs.PortData.{valueAt}
+use borrow.Author.Needs.{needs}
+use Rattle.levels.proofs.value_at.Statement.{statement}
+use Rattle.levels.proofs.value_at.Tie as tie
+
+port-at-requires : tie.Need-port-at-requires
+port-at-requires c κs = search needs
+
+returns : tie.Need-returns
+unfolding valueAt
+returns c = simp (c .before .port-at .ensures, c .if1 .taken)
+
+element-copy-out-c1 : tie.Need-element-copy-out-c1
+element-copy-out-c1 c = search needs
+
+element-copy-out-c2 : tie.Need-element-copy-out-c2
+element-copy-out-c2 c = search needs
+
+stand-requires : tie.Need-stand-requires
+stand-requires c κs = search needs
+
+stand-requires-2 : tie.Need-stand-requires-2
+stand-requires-2 c κs = search needs
+
+returns-2 : tie.Need-returns-2
+unfolding valueAt
+returns-2 c =
+    let t = c .before .before .before .before in
+    simp (c .stand2 .ensures, c .before .stand .ensures, t .if2 .taken, t .before .before .port-at .ensures)
+
+element-copy-out-c3 : tie.Need-element-copy-out-c3
+element-copy-out-c3 c = search needs
+
+stand-requires-3 : tie.Need-stand-requires-3
+stand-requires-3 c κs = search needs
+
+returns-3 : tie.Need-returns-3
+unfolding valueAt
+returns-3 c =
+    let e = c .before .before in
+    simp
+    (c .stand3 .ensures, ne-eqb _ _ (e .before .if1 .left), ne-eqb _ _ (e .if2 .left), e .before .before .port-at .ensures)
+
+pub value-at-spec : {M : Type 1} → statement M
+value-at-spec =
+    tie.close
+    (tie.spec
+    port-at-requires
+    returns
+    element-copy-out-c1
+    element-copy-out-c2
+    stand-requires
+    stand-requires-2
+    returns-2
+    element-copy-out-c3
+    stand-requires-3
+    returns-3)

@@ -1,0 +1,79 @@
+// Nights and devices in words, one after the other: what `show` prints of four images, a night with one argument, a night
+// refused in each way, a night cut in three, and a night between two long runs.
+use libc::STDIN_FILENO;
+use libc::STDOUT_FILENO;
+
+fn show(path: &[u8]) {
+    image_files::show(path, STDOUT_FILENO, STDOUT_FILENO);
+}
+
+// The fresh device, counters and ports at work in the evening, a source that requests, and the same source served.
+fn shown() {
+    show(b"shown/fresh");
+    show(b"shown/busy");
+    show(b"shown/asking");
+    show(b"shown/served");
+}
+
+fn night(from: &[u8], to: &[u8], trace: &[u8]) {
+    image_files::night_of(from, to, trace, STDOUT_FILENO, STDOUT_FILENO);
+}
+
+fn refused(from: &[u8], to: &[u8]) {
+    night(from, to, b"two_lines");
+}
+
+// A night refused in each way. The file `kept` stays as it is, which the last night shows: it runs on it.
+fn refusals() {
+    refused(b"missing", b"kept");
+    refused(b".", b"kept");
+    refused(b"empty", b"kept");
+    refused(b"short", b"kept");
+    refused(b"long", b"kept");
+    refused(b"contents", b"kept");
+    refused(b"unsound", b"kept");
+    refused(b"kept", b"missing/kept");
+    refused(b"kept", b"kept/kept");
+    refused(b"kept", b"folder");
+    refused(b"kept", b"kept");
+}
+
+// Whether two image files hold the same device.
+fn print_same(one: &[u8], other: &[u8]) {
+    let a = image_files::load(one, STDOUT_FILENO);
+    let b = image_files::load(other, STDOUT_FILENO);
+    let d = a.device;
+    let e = b.device;
+    if a.ok & b.ok & record::same(d, e) {
+        io::write_all(STDOUT_FILENO, b"same\n");
+    } else {
+        io::write_all(STDOUT_FILENO, b"lost\n");
+    }
+}
+
+// A night cut in three parts, on an image file that is both IN and OUT, and the same trace uncut.
+fn in_parts() {
+    night(b"-", b"cut", b"parts/evening");
+    night(b"cut", b"cut", b"parts/midnight");
+    night(b"cut", b"cut", b"parts/morning");
+    night(b"-", b"uncut", b"parts/whole");
+    print_same(b"cut", b"uncut");
+}
+
+// A trace uncut, and the same trace with a night in its middle. At the cut: a square counter in its second half, an odd
+// number of clocks, errors hidden behind pending interrupts, a count frozen, a catcher set under a low pin. Thousands of
+// millions of clocks on both sides.
+fn between_long_runs() {
+    night(b"-", b"uncut", b"overnight/whole");
+    night(b"-", b"cut", b"overnight/evening");
+    night(b"cut", b"cut", b"overnight/morning");
+    print_same(b"uncut", b"cut");
+}
+
+fn main() {
+    shown();
+    image_files::night_arguments(STDIN_FILENO, STDOUT_FILENO, STDOUT_FILENO);
+    refusals();
+    in_parts();
+    between_long_runs();
+}

@@ -1,0 +1,44 @@
+use Rattle.rules.specs.Sound.{soundOf}
+use borrow.Author.Needs.{needs}
+use Rattle.refusals.proofs.soundness.sound.Statement.{statement}
+use Rattle.refusals.proofs.soundness.sound.Tie as tie
+
+no-later-requires : tie.Need-no-later-requires
+no-later-requires c κs = search needs
+
+sound-sources-requires : tie.Need-sound-sources-requires
+sound-sources-requires c κs = search needs
+
+sound-counters-requires : tie.Need-sound-counters-requires
+sound-counters-requires c κs = search needs
+
+sound-ports-requires : tie.Need-sound-ports-requires
+sound-ports-requires c κs = search needs
+
+sound-patterns-requires : tie.Need-sound-patterns-requires
+sound-patterns-requires c κs = search needs
+
+reset-only-requires : tie.Need-reset-only-requires
+reset-only-requires c κs = search needs
+
+returns : tie.Need-returns
+unfolding soundOf
+returns c =
+    let b2 = c .before .before in
+    let b3 = b2 .before in
+    let b4 = b3 .before in
+    let b5 = b4 .before in
+    simp
+    (b5 .no-later .ensures, b4 .sound-sources .ensures, b3 .sound-counters .ensures, b2 .sound-ports .ensures, c .before .sound-patterns .ensures, c .reset-only .ensures)
+
+pub sound-spec : {M : Type 1} → statement M
+sound-spec =
+    tie.close
+    (tie.spec
+    no-later-requires
+    sound-sources-requires
+    sound-counters-requires
+    sound-ports-requires
+    sound-patterns-requires
+    reset-only-requires
+    returns)

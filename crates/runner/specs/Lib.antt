@@ -1,2 +1,0 @@
-pub mod Chase
-pub mod Room

@@ -1,3 +1,0 @@
-pub mod Ticks
-pub mod Free
-pub mod Stretch

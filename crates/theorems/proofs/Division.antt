@@ -1,0 +1,198 @@
+-- Paper 01, "Counters": the count and the report of a free-running counter over T n, by division. One law over the counter's place.
+-- Assumes nothing.
+use Prim.Native.Nat.{ℕ, zero, suc, _+_, _*_, _%_, _<_}
+use mathlib.Core.Path.{_≡_, refl, sym, ap, _∙_}
+use mathlib.Core.Bool.{Bool, true, false, not, _||_, So, false≢true}
+use native.Mathlib.Nat.{add-zero}
+use native.Mathlib.Omega.{arith}
+use lib.Dec.{eqb}
+use lib.ListN.{getD}
+use Rattle.rules.specs.declared.Device.{Device}
+use Rattle.rules.specs.declared.Counter.{Counter}
+use Rattle.rules.specs.declared.Event.{Event}
+use Rattle.rules.specs.declared.Outcome.{Outcome}
+use Rattle.rules.specs.declared.Ran.{Ran}
+use Rattle.basics.specs.Byte.{bit, num}
+use Rattle.rules.specs.Record.{counterAt}
+use Rattle.rules.specs.With.{withPhase}
+use Rattle.rules.specs.Report.{noReport}
+use Rattle.rules.specs.Registers.{counterOn, reset}
+use Rattle.rules.specs.Counters.{continuous, gateInput, square, lessOne, countOf}
+use Rattle.rules.specs.Step.{linesAt, stepOf, reported, clockOf, ranOf}
+use Rattle.basics.specs.Iterate.{iterate}
+use Rattle.rules.specs.Sound.{soundOf}
+use Rattle.rules.specs.Events.{isT, answerOf, outcomeOf, eventOf}
+use Rattle.basics.proofs.Places.{all-zero}
+use Rattle.theorems.proofs.Clauses.{sound-parts}
+use Rattle.theorems.specs.Free.{Free, timerClocks, fullOf, terminalsAfter, countAfter}
+use Rattle.theorems.proofs.Reports.{clock-first, clock-timer, added-at}
+use Rattle.theorems.proofs.ReportLaws.{num-le}
+use Rattle.theorems.proofs.Frame.{frame-step}
+use Rattle.theorems.proofs.Demand3.{ran}
+use Rattle.theorems.proofs.Countdown.{countdown, counts-by-division}
+use Rattle.theorems.proofs.Lines.{lines-phase, gate-kept}
+use Rattle.theorems.proofs.Timer.{count-last, count-more, clocked}
+
+-- ---- one count is one step of the countdown
+module _ (c : Counter) (con : continuous c ≡ true) (sq : square c ≡ false) where
+  -- what a count leaves as it is
+  record Kept (b : Counter) : Type 0 where
+    mode : b .mode ≡ c .mode
+    constant : b .constant ≡ c .constant
+    gcb : b .gcb ≡ c .gcb
+    cip : b .cip ≡ c .cip
+
+  kept-by : (v : Bool) → eqb (lessOne 65536 (c .count)) 0 ≡ v → Kept (countOf c .counter)
+  kept-by true e = rw (count-last c con sq e) (record { mode = refl; constant = refl; gcb = refl; cip = refl })
+  kept-by false e = rw (count-more c con sq e) (record { mode = refl; constant = refl; gcb = refl; cip = refl })
+
+  count-kept : Kept (countOf c .counter)
+  count-kept = kept-by _ refl
+
+  counts-by : (v : Bool) (n : ℕ) → eqb (lessOne 65536 (c .count)) 0 ≡ v
+      → (countOf c .counter .count, n + num (countOf c .terminal)) ≡ countdown 65536 (c .constant) (c .count, n)
+  unfolding countdown
+  counts-by true n e = rw (count-last c con sq e) (simp e)
+  counts-by false n e = rw (count-more c con sq e) (simp (e, add-zero))
+
+  count-counts : (n : ℕ) → (countOf c .counter .count, n + num (countOf c .terminal)) ≡ countdown 65536 (c .constant) (c .count, n)
+  count-counts n = counts-by _ n refl
+
+-- ---- a clock leaves a free-running counter free-running
+free-phase : (d : Device) (v : Bool) (i : ℕ) → Free d i → Free (withPhase d v) i
+free-phase d v i f =
+    record {
+      enabled = f .enabled;
+      cip = f .cip;
+      gcb = f .gcb;
+      gate = ap (λ (w : ℕ). not (gateInput (counterAt d i)) || bit w 3) (lines-phase d v i) ∙ f .gate;
+      clocked = f .clocked;
+      continues = f .continues;
+      notSquare = f .notSquare;
+      unlinked = f .unlinked;
+    }
+
+module _ (d : Device) (i : ℕ) (h : i < 3) (f : Free d i) where
+  abbrev stepped : Device
+  stepped = stepOf true d (withPhase d false) .device
+
+  stepped-kept : Kept (counterAt d i) (f .continues) (f .notSquare) (counterAt stepped i)
+  stepped-kept = rw (clocked d i h f .counter) (count-kept (counterAt d i) (f .continues) (f .notSquare))
+
+  free-step : Free stepped i
+  free-step =
+      let k = stepped-kept in
+      let r = frame-step true d (withPhase d false) in
+      record {
+        enabled = ap (λ (b : ℕ). counterOn b i) (r .config) ∙ f .enabled;
+        cip = k .cip ∙ f .cip;
+        gcb = k .gcb ∙ f .gcb;
+        gate = ap (λ (m : ℕ). not (bit m 3) || bit (linesAt stepped i) 3) (k .mode)
+            ∙ ap (λ (v : Bool). not (gateInput (counterAt d i)) || v) (gate-kept (withPhase d false) stepped r i h)
+            ∙ free-phase d false i f .gate;
+        clocked = ap (λ (m : ℕ). bit m 5) (k .mode) ∙ f .clocked;
+        continues = ap (λ (m : ℕ). bit m 7) (k .mode) ∙ f .continues;
+        notSquare = ap (λ (m : ℕ). eqb (m % 4) 2) (k .mode) ∙ f .notSquare;
+        unlinked = λ e. ap (λ (b : ℕ). b % 4) (r .config) ∙ f .unlinked e;
+      }
+
+-- ---- n clocks
+module _ (d : Device) (i : ℕ) (h : i < 3) where
+  abbrev start : Ran
+  start = record { device = d; report = noReport }
+
+  -- after n clocks, of which k were timer clocks
+  record After (n : ℕ) (s : Ran) : Type 0 where
+    k : ℕ
+    free : Free (s .device) i
+    running : reset (s .device) ≡ false
+    constant : counterAt (s .device) i .constant ≡ counterAt d i .constant
+    sum : 2 * k + num (s .device .phase) ≡ n + num (d .phase)
+    state : (counterAt (s .device) i .count, getD (s .report .terminals) i 0)
+        ≡ iterate k (countdown 65536 (counterAt d i .constant)) (counterAt d i .count, 0)
+
+  first : (n : ℕ) (s : Ran) → After n s → s .device .phase ≡ false → After (suc n) (clockOf s)
+  first n s r p =
+      let b = ap num p in
+      rw (clock-first s (r .running) p)
+      (record {
+        k = r .k;
+        free = free-phase (s .device) true i (r .free);
+        running = r .running;
+        constant = r .constant;
+        sum = omega (arith, r .sum, b);
+        state = r .state;
+      })
+
+  timer : (n : ℕ) (s : Ran) → After n s → s .device .phase ≡ true → After (suc n) (clockOf s)
+  unfolding iterate reported
+  timer n s r p =
+      let b = ap num p in
+      let g = frame-step true (s .device) (withPhase (s .device) false) in
+      let q = ap num (g .phase) in
+      let w = clocked (s .device) i h (r .free) in
+      let t = stepOf true (s .device) (withPhase (s .device) false) in
+      rw (clock-timer s (r .running) p)
+      (record {
+        k = suc (r .k);
+        free = free-step (s .device) i h (r .free);
+        running = ap (λ (m : ℕ). bit m 0) (g .master) ∙ r .running;
+        constant = stepped-kept (s .device) i h (r .free) .constant ∙ r .constant;
+        sum = omega (arith, r .sum, b, q);
+        state = ap (λ (n : ℕ). (counterAt (t .device) i .count, n)) (added-at (s .report) t i h)
+            ∙ ap (λ (c : Counter). (c .count, getD (s .report .terminals) i 0 + num (getD (t .terminals) i false))) (w .counter)
+            ∙ ap (λ (v : Bool). (countOf (counterAt (s .device) i) .counter .count, getD (s .report .terminals) i 0 + num v)) (w .terminal)
+            ∙ count-counts (counterAt (s .device) i) (r .free .continues) (r .free .notSquare) (getD (s .report .terminals) i 0)
+            ∙ ap (λ (t : ℕ). countdown 65536 t (counterAt (s .device) i .count, getD (s .report .terminals) i 0)) (r .constant)
+            ∙ ap (countdown 65536 (counterAt d i .constant)) (r .state);
+      })
+
+  next-by : (v : Bool) (n : ℕ) (s : Ran) → After n s → s .device .phase ≡ v → After (suc n) (clockOf s)
+  next-by true n s r p = timer n s r p
+  next-by false n s r p = first n s r p
+
+  after : (n : ℕ) → reset d ≡ false → Free d i → After n (iterate n clockOf start)
+  unfolding iterate
+  after zero r f =
+      record {
+        k = 0;
+        free = f;
+        running = r;
+        constant = refl;
+        sum = omega arith;
+        state = ap (λ (n : ℕ). (counterAt d i .count, n)) (all-zero i);
+      }
+  after (suc n) r f = next-by _ n (iterate n clockOf start) (after n r f) refl
+
+-- ---- a free-running counter's device is not held: reset leaves CIP 0
+not-held : (v : Bool) (d : Device) (i : ℕ) → i < 3 → soundOf d ≡ true → Free d i → reset d ≡ v → reset d ≡ false
+not-held false d i h s f r = r
+not-held true d i h s f r =
+    absurd (false≢true (sym (ap (λ (c : Counter). c .cip) (sound-parts d s .base .held r .counters i h)) ∙ f .cip))
+
+-- ---- the law
+-- counter i's count and report after the event e, by division, where e is T n
+pub record Divided (d : Device) (i : ℕ) (e : Event) : Type 0 where
+  pub count : counterAt (eventOf d e .device) i .count
+      ≡ countAfter (fullOf 65536 (counterAt d i .count)) (fullOf 65536 (counterAt d i .constant)) (timerClocks d (e .a)) % 65536
+  pub report : getD (eventOf d e .answer .report .terminals) i 0
+      ≡ terminalsAfter (fullOf 65536 (counterAt d i .count)) (fullOf 65536 (counterAt d i .constant)) (timerClocks d (e .a))
+
+event-view : (d : Device) (i : ℕ) (e : Event) → So (isT e) → soundOf d ≡ true
+    → _≡_ {A = ℕ × ℕ} (counterAt (eventOf d e .device) i .count, getD (eventOf d e .answer .report .terminals) i 0)
+    (counterAt (ranOf (e .a) d .device) i .count, getD (ranOf (e .a) d .report .terminals) i 0)
+unfolding outcomeOf answerOf
+event-view d i e t s = ap (λ (o : Outcome). (counterAt (o .device) i .count, getD (o .answer .report .terminals) i 0)) (ran d e t s)
+
+pub division : (d : Device) (i : ℕ) (e : Event) → So (isT e) → i < 3 → soundOf d ≡ true → Free d i → counterAt d i .count < 65536
+    → counterAt d i .constant < 65536 → Divided d i e
+unfolding ranOf
+division d i e is-t h s f hc ht =
+    let n = e .a in
+    let a = after d i h n (not-held _ d i h s f refl) f in
+    let b = num-le (iterate n clockOf (record { device = d; report = noReport }) .device .phase) in
+    let k : a .k ≡ timerClocks d n = omega (arith, a .sum, b) in
+    let t = counterAt d i .constant in
+    let p = event-view d i e is-t s ∙ a .state ∙ ap (λ (m : ℕ). iterate m (countdown 65536 t) (counterAt d i .count, 0)) k
+    ∙ counts-by-division 65536 (counterAt d i .count) t hc ht (timerClocks d n) in
+    record { count = ap (λ (w : ℕ × ℕ). w .0) p; report = ap (λ (w : ℕ × ℕ). w .1) p }

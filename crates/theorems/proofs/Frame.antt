@@ -1,0 +1,93 @@
+-- What a step leaves as it is after (a): all but the counters, the catchers, the patterns' PMF and the sources.
+-- Assumes nothing.
+use Prim.Native.Nat.{ℕ}
+use mathlib.Core.Path.{_≡_, refl, _∙_}
+use mathlib.Core.Bool.{Bool, true, false}
+use lib.ListN.{set}
+use Rattle.rules.specs.declared.Device.{Device}
+use Rattle.rules.specs.declared.Counted.{Counted}
+use Rattle.rules.specs.declared.Link.{Link}
+use Rattle.rules.specs.Record.{portAt, patternAt, counterAt, ofPort, ofCounter}
+use Rattle.rules.specs.With.{withCounter, withPattern, withPmf, withCatcher}
+use Rattle.rules.specs.Registers.{counterEnabled}
+use Rattle.rules.specs.Counters.{reachOf, turnOf}
+use Rattle.rules.specs.Step.{eventAt, turned, counterTurn, caughtAt, catchers, matchedBy, patternTurn, settled, stepOf}
+
+-- e is d but for its counters, catchers, patterns' PMF and sources: of B and C, whose bits are the counters' lines, all but the catchers
+pub record Frame (d e : Device) : Type 0 where
+  pub master : e .master ≡ d .master
+  pub config : e .config ≡ d .config
+  pub phase : e .phase ≡ d .phase
+  pub portB : withCatcher (portAt e 1) 0 ≡ withCatcher (portAt d 1) 0
+  pub portC : withCatcher (portAt e 2) 0 ≡ withCatcher (portAt d 2) 0
+
+pub frame-refl : (d : Device) → Frame d d
+frame-refl d = record { master = refl; config = refl; phase = refl; portB = refl; portC = refl }
+
+pub frame-trans : {d e f : Device} → Frame d e → Frame e f → Frame d f
+frame-trans p q =
+    record {
+      master = q .master ∙ p .master;
+      config = q .config ∙ p .config;
+      phase = q .phase ∙ p .phase;
+      portB = q .portB ∙ p .portB;
+      portC = q .portC ∙ p .portC;
+    }
+
+pub frame-event : (d : Device) (k : ℕ) (hides happens : Bool) → Frame d (eventAt d k hides happens)
+unfolding eventAt
+frame-event d k hides true = record { master = refl; config = refl; phase = refl; portB = refl; portC = refl }
+frame-event d k hides false = frame-refl d
+
+pub frame-turned : (d : Device) (i : ℕ) (r : Counted) → Frame d (turned d i r .device)
+unfolding turned
+frame-turned d i r =
+    let w : Frame d (withCounter d i (r .counter)) = record { master = refl; config = refl; phase = refl; portB = refl; portC = refl } in
+    frame-trans w (frame-event (withCounter d i (r .counter)) (ofCounter i) true (r .terminal))
+
+pub frame-turn : (k : Link) (timer : Bool) (were are i : ℕ) (d : Device) → Frame d (counterTurn k timer were are i d .device)
+unfolding counterTurn
+frame-turn k timer were are i d = frame-turned d i _
+
+frame-catchers : (d : Device) → Frame d (catchers d)
+unfolding catchers caughtAt
+frame-catchers d = record { master = refl; config = refl; phase = refl; portB = refl; portC = refl }
+
+frame-matched : (p : ℕ) (matches : Bool) (d : Device) → Frame d (matchedBy p matches d)
+unfolding matchedBy
+frame-matched p matches d =
+    let w : Frame d (withPattern d p (withPmf (patternAt d p) matches)) = record { master = refl; config = refl; phase = refl; portB = refl; portC = refl } in
+    frame-trans w (frame-event (withPattern d p (withPmf (patternAt d p) matches)) (ofPort p) (patternAt d p .ioe) _)
+
+frame-pattern : (p before : ℕ) (d : Device) → Frame d (patternTurn p before d)
+unfolding patternTurn
+frame-pattern p before d = frame-matched p _ d
+
+frame-settled : (a b : ℕ) (d : Device) → Frame d (settled a b d)
+unfolding settled
+frame-settled a b d =
+    frame-trans (frame-trans (frame-catchers d) (frame-pattern 0 a (catchers d))) (frame-pattern 1 b (patternTurn 0 a (catchers d)))
+
+pub frame-step : (timer : Bool) (d0 d1 : Device) → Frame d1 (stepOf timer d0 d1 .device)
+unfolding stepOf
+frame-step timer d0 d1 =
+    frame-trans (frame-trans (frame-trans (frame-turn _ _ _ _ _ d1) (frame-turn _ _ _ _ _ _)) (frame-turn _ _ _ _ _ _)) (frame-settled _ _ _)
+
+-- ---- the counters go by their turns alone
+pub event-counters : (d : Device) (k : ℕ) (hides happens : Bool) → eventAt d k hides happens .counters ≡ d .counters
+unfolding eventAt
+event-counters d k hides true = refl
+event-counters d k hides false = refl
+
+-- the turn of counter i, in a device with these counters
+abbrev pub turnAt : Link → Bool → ℕ → ℕ → ℕ → Device → Counted
+turnAt link timer were are i d = turnOf (counterEnabled d i) (reachOf (counterAt d i) link timer were are) (counterAt d i)
+
+pub turn-counters : (k : Link) (timer : Bool) (were are i : ℕ) (d : Device)
+    → counterTurn k timer were are i d .device .counters ≡ set (d .counters) i (turnAt k timer were are i d .counter)
+unfolding counterTurn turned
+turn-counters k timer were are i d = event-counters (withCounter d i _) (ofCounter i) true _
+
+pub settled-counters : (a b : ℕ) (d : Device) → settled a b d .counters ≡ d .counters
+unfolding settled patternTurn matchedBy catchers
+settled-counters a b d = event-counters _ (ofPort 1) _ _ ∙ event-counters _ (ofPort 0) _ _

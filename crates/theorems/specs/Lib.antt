@@ -1,0 +1,8 @@
+-- Events: the numbers that each kind uses, and lists of them.
+pub mod Used
+pub mod Traces
+-- Clocks: T's as one, reports, a free-running counter, a stretch.
+pub mod Ticks
+pub mod Reports
+pub mod Free
+pub mod Stretch
