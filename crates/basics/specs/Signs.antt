@@ -6,13 +6,11 @@ use lib.Dec.{eqb, leb}
 
 -- the first where the test passes, else the second
 infixr 1 if_then_else_
-
 abbrev pub if_then_else_ : {A : Type 0} → Bool → A → A → A
 if b then x else y = cond b x y
 
 -- whether two numbers are the same; `ltb a b` of the library tests a < b, `leb a b` tests a ≤ b
 infix 45 _==_
-
 abbrev pub _==_ : ℕ → ℕ → Bool
 a == b = eqb a b
 

@@ -8,19 +8,11 @@ use lib.Arith.{digits-div, digits-mod}
 use lib.Dec.{T, eqb, ltb, eqb→eq}
 use Rattle.basics.specs.Byte.{bit, byteIn}
 use Rattle.bodies.specs.Taken.{wordOf, portClear, counterClear}
+use Rattle.basics.proofs.Tests.{both, triple}
 use Rattle.basics.proofs.Truth.{rows, all2, all6, all7, same}
 use Rattle.basics.proofs.Laws.{all, below}
 
 -- clauses that hold together hold one by one
-pub both : (a b : Bool) → (a && b) ≡ true → (a ≡ true) × (b ≡ true)
-both true b h = (refl, h)
-both false b h = absurd (subst T (sym h) tt)
-
-pub triple : (a b c : Bool) → (a && b && c) ≡ true → (a ≡ true) × (b ≡ true) × (c ≡ true)
-triple a b c h =
-    let q = both (a && b) c h in
-    let p = both a b (q .0) in (p .0, p .1, q .1)
-
 pub fourfold : (a b c d : Bool) → (a && b && c && d) ≡ true → (a ≡ true) × (b ≡ true) × (c ≡ true) × (d ≡ true)
 fourfold a b c d h =
     let r = both (a && b && c) d h in

@@ -15,8 +15,9 @@ use Rattle.rules.specs.Registers.{kindOf, kindIn, portKind, statusOf}
 use Rattle.rules.specs.Access.{portCommand, counterCommand, readOf}
 use Rattle.bodies.specs.Written.{savedByte, registersFrom, registersBody, flagsOf, countsBody}
 use Rattle.bodies.specs.Taken.{byteAt, Bytes, counterWith, countsIn, countsClear}
+use Rattle.basics.proofs.Tests.{triple}
 use Rattle.bodies.proofs.Lists.{elements}
-use Rattle.bodies.proofs.Bytes.{triple, flag-0, flag-1, flag-clear, flag-made, word-read, high-made, low-made}
+use Rattle.bodies.proofs.Bytes.{flag-0, flag-1, flag-clear, flag-made, word-read, high-made, low-made}
 
 -- a counter with the count and the half of another, and a source with the hidden error of another
 abbrev countLike : Counter → Counter → Counter

@@ -12,8 +12,9 @@ use Rattle.rules.specs.Registers.{kindOf, kindIn, portKind, statusOf}
 use Rattle.rules.specs.Access.{portCommand, counterCommand, readOf}
 use Rattle.bodies.specs.Written.{savedByte, registersFrom, registersBody, flagsOf, countsBody, hiddenOf, pinsBody, linesBody}
 use Rattle.bodies.specs.Taken.{byteAt, Bytes, linesIn, linesClear}
+use Rattle.basics.proofs.Tests.{both}
 use Rattle.bodies.proofs.Lists.{elements}
-use Rattle.bodies.proofs.Bytes.{both, line-0, line-clear, line-made}
+use Rattle.bodies.proofs.Bytes.{line-0, line-clear, line-made}
 
 -- a record e with what body 4 tells of d
 abbrev pub linesTold : Device → Device → Device

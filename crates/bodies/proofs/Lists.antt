@@ -34,19 +34,3 @@ elements [] (suc n) e = absurd (omega arith)
 elements (x ∷ b) zero e = absurd (omega arith)
 elements (x ∷ b) (suc n) e =
     ap (λ (l : List ℕ). x ∷ l) (next (λ k. getD (x ∷ b) k 0) (λ k. getD b k 0) 0 n (λ k. refl) ∙ elements b n (omega arith))
-
-module _ {A : Type 0} (z : A) where
-  pub two : (l : List A) → length l ≡ 2 → getD l 0 z ∷ getD l 1 z ∷ [] ≡ l
-  two [] e = absurd (omega arith)
-  two (a ∷ []) e = absurd (omega arith)
-  two (a ∷ b ∷ []) e = refl
-  two (a ∷ b ∷ c ∷ l) e = absurd (omega arith)
-
-  pub three : (l : List A) → length l ≡ 3 → getD l 0 z ∷ getD l 1 z ∷ getD l 2 z ∷ [] ≡ l
-  three [] e = absurd (omega arith)
-  three (a ∷ l) e = ap (λ (m : List A). a ∷ m) (two l (omega arith))
-
-  pub five : (l : List A) → length l ≡ 5 → getD l 0 z ∷ getD l 1 z ∷ getD l 2 z ∷ getD l 3 z ∷ getD l 4 z ∷ [] ≡ l
-  five [] e = absurd (omega arith)
-  five (a ∷ []) e = absurd (omega arith)
-  five (a ∷ b ∷ l) e = ap (λ (m : List A). a ∷ b ∷ m) (three l (omega arith))

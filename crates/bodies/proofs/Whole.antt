@@ -19,7 +19,8 @@ use Rattle.bodies.specs.Layout.{Entry, sizesFrom, layoutOf, layoutIn, co
 use Rattle.bodies.specs.Written.{registersFrom, registersBody, countsBody, pinsBody, linesBody, imageOf}
 use Rattle.bodies.specs.Taken.{Bytes, registersIn, countsIn, pinsIn, linesIn, registersClear, countsClear, pinsClear, linesClear, recordIn, unusedClear, deviceIn, clearIn}
 use Rattle.bodies.proofs.Bytes.{fourfold}
-use Rattle.bodies.proofs.Lists.{ap₃, two, three, five}
+use Rattle.bodies.proofs.Lists.{ap₃}
+use Rattle.basics.proofs.Lists.{two, three, five}
 use Rattle.bodies.proofs.RegistersLaw.{registersTold, registers-read, registers-written, registers-clear}
 use Rattle.bodies.proofs.CountsLaw.{countsTold, counts-read, counts-written, counts-clear, counts-apart}
 use Rattle.bodies.proofs.PinsLaw.{pinsTold, pins-read, pins-written, pins-clear, pins-apart-1, pins-apart-2}
@@ -69,9 +70,9 @@ all-told d f =
     let told = linesTold (pinsTold (countsTold (registersTold d) d) d) d in
     ap₃ (λ (vs : List ℕ) (ps : List Port) (qs : List Pattern).
     device (d .master) (d .config) vs ps qs (told .counters) (told .sources) (d .iei) (d .phase))
-    (three 0 (d .vectors) (f .vectors)) (three (bare 0) (d .ports) (f .ports)) (two blank (d .patterns) (f .patterns))
+    (sym (three 0 (d .vectors) (f .vectors))) (sym (three (bare 0) (d .ports) (f .ports))) (sym (two blank (d .patterns) (f .patterns)))
     ∙ ap₂ (λ (cs : List Counter) (ss : List Source). withSources (withCounters d cs) ss)
-    (three idle (d .counters) (f .counters)) (five quiet (d .sources) (f .sources))
+    (sym (three idle (d .counters) (f .counters))) (sym (five quiet (d .sources) (f .sources)))
 
 -- what was written is read back
 pub read-back : (d : Device) → Shaped d → deviceIn (imageOf d) ≡ d

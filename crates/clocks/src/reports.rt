@@ -29,7 +29,9 @@ pub fn reported(r: Report, s: Stepped) -> Ran
     let n = r.terminals;
     let t = s.terminals;
     let d = s.device;
-    let sum = Report { terminals: [add(n[0], t[0]), add(n[1], t[1]), add(n[2], t[2])] };
+    let sum = Report {
+        terminals: [add(n[0], t[0]), add(n[1], t[1]), add(n[2], t[2])],
+    };
     Ran {
         device: d,
         report: sum,
@@ -58,5 +60,11 @@ pub fn after_rounds(q: u32, was: Report, is: Report) -> Report
 {
     let w = was.terminals;
     let n = is.terminals;
-    Report { terminals: [repeated(q, w[0], n[0]), repeated(q, w[1], n[1]), repeated(q, w[2], n[2])] }
+    Report {
+        terminals: [
+            repeated(q, w[0], n[0]),
+            repeated(q, w[1], n[1]),
+            repeated(q, w[2], n[2]),
+        ],
+    }
 }

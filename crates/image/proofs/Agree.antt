@@ -9,7 +9,7 @@ use borrow.Author.Tests.{eq-eqb, ne-eqb, eqb-true}
 use lib.Dec.{T, eqb}
 use lib.ListN.{length, getD, drop, drop-of-length-le}
 use lib.Seq.{drop-cons}
-use Rattle.bodies.proofs.Bytes.{both}
+use Rattle.basics.proofs.Tests.{both}
 use Rattle.image.specs.Image.{agree}
 
 -- from a place on: where the bytes are the same, where they differ, and where there are none

@@ -15,7 +15,7 @@ use Rattle.rules.specs.Sound.{soundOf}
 use Rattle.bodies.specs.Layout.{layoutOf, layoutIn, lengthOf, contentsOf}
 use Rattle.bodies.specs.Written.{imageOf}
 use Rattle.bodies.specs.Taken.{deviceIn, clearIn}
-use Rattle.bodies.proofs.Bytes.{both}
+use Rattle.basics.proofs.Tests.{both}
 use Rattle.bodies.proofs.Whole.{image-length}
 use Rattle.image.specs.Image.{saveCode, savedOf, restoredOf}
 use Rattle.image.proofs.Agree.{alike}

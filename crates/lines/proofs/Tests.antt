@@ -1,18 +1,12 @@
--- Two tests at once.
+-- A range as a test.
 -- Assumes nothing.
 use Prim.Native.Nat.{ℕ, _≤_}
-use mathlib.Core.Bool.{Bool, true, false, _&&_}
-use mathlib.Core.Path.{_≡_, refl, sym, subst}
+use mathlib.Core.Bool.{true}
+use mathlib.Core.Path.{_≡_}
 use borrow.Author.Tests.{leb-true}
-use lib.Dec.{T, leb}
+use lib.Dec.{leb}
 use Rattle.basics.specs.Signs.{within}
-
-true-false : true ≡ false → ⊥
-true-false e = subst T e tt
-
-pub both : (a b : Bool) → (a && b) ≡ true → (a ≡ true) × (b ≡ true)
-both true b e = (refl, e)
-both false b e = absurd (true-false (sym e))
+use Rattle.basics.proofs.Tests.{both}
 
 -- what lies in a range
 pub bounds : (low high a : ℕ) → within low high a ≡ true → (low ≤ a) × (a ≤ high)

@@ -23,7 +23,8 @@ module _ {M : Type 1} (𝓤 : URA M) (H : Heap 𝓤) (A : Atoms 𝓤) (at-mem : 
   -- "Beside the call that hands a record back there is one that alters the host's device where it stands, with the same answer."
   -- Whatever answers r, with the device lent as it is at the exit x, and s satisfy the two promises for one device and one event, they are the same answer and the same record.
   pub same-answer : (κs : Lfts 1) (d : RefT Device) (e : Event) (r : Answer) (x : AtExit in-place.ended κs) (s : Outcome) (y : AtExit by-value.ended tt)
-      → ent 𝓤 (conj 𝓤 (in-place.clauses 𝓤 H A at-mem run κs (d, (e, tt)) .ensures tt r x) (by-value.clauses 𝓤 H A at-mem run tt (now d, (e, tt)) .ensures tt s y)) (fact 𝓤 ((r ≡ s .answer) × (now (x .0) ≡ s .device)))
+      → ent 𝓤 (conj 𝓤 (in-place.clauses 𝓤 H A at-mem run κs (d, (e, tt)) .ensures tt r x) (by-value.clauses 𝓤 H A at-mem run tt (now d, (e, tt)) .ensures tt s y))
+      (fact 𝓤 ((r ≡ s .answer) × (now (x .0) ≡ s .device)))
   same-answer κs d e r x s y =
       let P = in-place.clauses 𝓤 H A at-mem run κs (d, (e, tt)) .ensures tt r x in
       let Q = by-value.clauses 𝓤 H A at-mem run tt (now d, (e, tt)) .ensures tt s y in

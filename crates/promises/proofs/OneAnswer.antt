@@ -156,7 +156,11 @@ module _ {M : Type 1} (𝓤 : URA M) where
   pub session-feed : OneAnswer 𝓤 session·feed.ended (session·feed.clauses 𝓤) (λ κs. Fed × List ℕ) (λ κs r x. (r, now (x .1 .1 .1 .0)))
   session-feed =
       one-answer 𝓤 session·feed.ended (session·feed.clauses 𝓤) (λ κs. Fed × List ℕ) (λ κs r x. (r, now (x .1 .1 .1 .0)))
-      (λ κs a. (fedBy (a .0) (a .1 .1 .0) (bytesRead (a .0) (now (a .1 .0)) (a .1 .1 .0) (now (a .1 .1 .1 .0))), answered (answersIn (a .0) (bytesRead (a .0) (now (a .1 .0)) (a .1 .1 .0) (now (a .1 .1 .1 .0)))) (now (a .1 .1 .1 .0))))
+      (λ κs a. (
+        fedBy (a .0) (a .1 .1 .0) (bytesRead (a .0) (now (a .1 .0)) (a .1 .1 .0) (now (a .1 .1 .1 .0))),
+        answered
+            (answersIn (a .0) (bytesRead (a .0) (now (a .1 .0)) (a .1 .1 .0) (now (a .1 .1 .1 .0)))) (now (a .1 .1 .1 .0)),
+      ))
       (λ H A at-mem run κs a g r x. two-clauses 𝓤 _ _ _ _ (λ p q i. (p i, q i)))
 
   pub session-finish : OneAnswer 𝓤 session·finish.ended (session·finish.clauses 𝓤) (λ κs. Told × List ℕ) (λ κs r x. (r, now (x .1 .0)))

@@ -1,7 +1,7 @@
 // The code of an event: a test for each refusal, in the paper's order.
 ghost use mathlib.Core.Path.{_≡_};
-ghost use mathlib.Core.Bool.{_&&_};
-ghost use Rattle.basics.specs.Signs.{_==_};
+ghost use mathlib.Core.Bool.{_&&_, cond};
+ghost use Rattle.basics.specs.Signs.{if_then_else_, _==_};
 ghost use Rattle.rules.specs.Registers.{readOnly, later};
 ghost use Rattle.rules.specs.Interrupts.{requester};
 ghost use Rattle.rules.specs.Events.{isW, isK, unknown, noRegister, tooLarge, held, codeOf};
@@ -53,37 +53,32 @@ fn is_later(d: Device, e: Event) -> bool
 fn is_unrequested(d: Device, e: Event) -> bool
     ensures { λ r. ⌜ r ≡ (isK e && requester d == 5) ⌝ }
 {
-    let k = interrupts::requester_of(d);
-    (e.kind == Event::K) & (k == 5)
+    if e.kind == Event::K {
+        return interrupts::requester_of(d) == 5;
+    }
+    false
 }
 
-// "Order: 9, 1, 2, 5, reset hold, 3, 4, 6."
+// A code where its test passes, else the code of the tests after it.
+fn or_else(refused: bool, code: u8, rest: u8) -> u8
+    ensures { λ r. ⌜ r ≡ (if refused then code else rest) ⌝ }
+{
+    if refused {
+        return code;
+    }
+    rest
+}
+
+// "Order: 9, 1, 2, 5, reset hold, 3, 4, 6.", from the last to the first.
 pub fn code_of(d: Device, e: Event) -> u8
     ensures { λ r. ⌜ r ≡ codeOf d e ⌝ }
 {
-    if !sound(d) {
-        return 9;
-    }
-    if is_unknown(e) {
-        return 1;
-    }
-    if has_no_register(e) {
-        return 2;
-    }
-    if is_too_large(e) {
-        return 5;
-    }
-    if is_held(d, e) {
-        return 0;
-    }
-    if is_read_only(e) {
-        return 3;
-    }
-    if is_later(d, e) {
-        return 4;
-    }
-    if is_unrequested(d, e) {
-        return 6;
-    }
-    0
+    let from_6 = or_else(is_unrequested(d, e), 6, 0);
+    let from_4 = or_else(is_later(d, e), 4, from_6);
+    let from_3 = or_else(is_read_only(e), 3, from_4);
+    let from_hold = or_else(is_held(d, e), 0, from_3);
+    let from_5 = or_else(is_too_large(e), 5, from_hold);
+    let from_2 = or_else(has_no_register(e), 2, from_5);
+    let from_1 = or_else(is_unknown(e), 1, from_2);
+    or_else(!sound(d), 9, from_1)
 }

@@ -5,6 +5,7 @@ use Rattle.rules.specs.declared.Kind.{Kind}
 use Rattle.rules.specs.declared.Kind.the-variants.{Master, Config, Vector, Polarity, Direction, Special, PortCommand, CounterCommand, Data}
 use Rattle.rules.specs.declared.Kind.the-variants.{Current, Constant, CounterMode, CurrentVector, PortMode, Handshake, PatternPolarity, Transition, Mask, Absent}
 
+-- the place that a kind names
 abbrev pub place : Kind → ℕ
 place Master = 0
 place Config = 0
@@ -26,6 +27,7 @@ place (Transition p) = p
 place (Mask p) = p
 place Absent = 0
 
+-- how many places it may be of
 abbrev pub places : Kind → ℕ
 places Master = 1
 places Config = 1

@@ -8,11 +8,13 @@ use Rattle.rules.specs.declared.Counter.{Counter}
 use Rattle.rules.specs.declared.Port.{Port}
 use Rattle.rules.specs.declared.Pattern.{Pattern}
 use Rattle.rules.specs.declared.Kind.{Kind}
-use Rattle.rules.specs.declared.Kind.the-variants.{Master, Config, Vector, Polarity, Direction, Special, PortCommand, CounterCommand, Data, Current, Constant, CounterMode, CurrentVector, PortMode, Handshake, PatternPolarity, Transition, Mask, Absent}
+use Rattle.rules.specs.declared.Kind.the-variants.{Master, Config, Vector, Polarity, Direction, Special, PortCommand, CounterCommand, Data}
+use Rattle.rules.specs.declared.Kind.the-variants.{Current, Constant, CounterMode, CurrentVector, PortMode, Handshake, PatternPolarity, Transition, Mask, Absent}
 use lib.Dec.{eqb, leb}
 use Rattle.basics.specs.Signs.{if_then_else_, _==_, within}
 use Rattle.basics.specs.Byte.{bit, byteIn, withByte}
-use Rattle.rules.specs.With.{withMaster, withConfig, withVector, withPort, withPattern, withCounter, withCounters, withSource, withPolarity, withDirection, withSpecial, withConstant, withMode, withPortMode, withHandshake, withPatternPolarity, withTransition, withMask, withIoe}
+use Rattle.rules.specs.With.{withMaster, withConfig, withVector, withPort, withPattern, withCounter, withCounters, withSource, withPolarity}
+use Rattle.rules.specs.With.{withDirection, withSpecial, withConstant, withMode, withPortMode, withHandshake, withPatternPolarity, withTransition, withMask, withIoe}
 use Rattle.rules.specs.Record.{portAt, patternAt, counterAt, sourceAt, ofPort, ofCounter, resetOf}
 use Rattle.rules.specs.Registers.{kept, counterOn, counterEnabled, commanded, portCommandOf, counterCommandOf}
 use Rattle.rules.specs.PortData.{dataAt, writtenData}

@@ -36,8 +36,17 @@ only-moved-requires c κs = search needs
 far-requires : tie.Need-far-requires
 far-requires c κs =
     let s = c .before .before .before .before .before .before .before .before .before .before .before .before .before in
-    let e = c .before .only-moved .ensures (c .if1 .taken) in
-    (s .pre .0, s .pre .1, record { first = c .before .before .before .before .before .before .before .before .moves .ensures; second = c .before .before .before .before .before .moves2 .ensures; third = c .before .before .moves3 .ensures }, sym (s .pre .2) ∙ e)
+    let e = c .before .only-moved .ensures (c .if1 .taken) in (
+      s .pre .0,
+      s .pre .1,
+      record {
+        first = c .before .before .before .before .before .before .before .before .moves .ensures;
+        second =
+            c .before .before .before .before .before .moves2 .ensures;
+        third = c .before .before .moves3 .ensures;
+      },
+      sym (s .pre .2) ∙ e,
+    )
 
 returns : tie.Need-returns
 returns c = search needs

@@ -19,7 +19,8 @@ add-t6 : tie.Need-add-t6
 add-t6 c = search needs
 
 returns-2 : tie.Need-returns-2
-returns-2 c = stays (c .before .before .before .before .before .before .before .before .before .args .c) _ (c .before .before .before .before .before .before .before .before .before .pre .0) refl refl refl refl
+returns-2 c = stays (c .before .before .before .before .before .before .before .before .before .args .c) _
+    (c .before .before .before .before .before .before .before .before .before .pre .0) refl refl refl refl
 
 renewed-requires : tie.Need-renewed-requires
 renewed-requires c κs = search needs

@@ -20,7 +20,7 @@ ieo-requires c κs = search needs
 
 returns : tie.Need-returns
 unfolding outcomeOf answerOf
-returns c = 
+returns c =
     let at-int = c .before in
     let at-c = at-int .before in
     let at-b = at-c .before in

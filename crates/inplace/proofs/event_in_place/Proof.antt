@@ -1,4 +1,5 @@
--- `inplace::event_in_place` meets its contract: a walk of its MIR, by hand. The borrow is opened, the device is copied out, `event::event` is called, the device that it returns is stored, and the borrow is closed at it.
+-- `inplace::event_in_place` meets its contract: a walk of its MIR, by hand. The borrow is opened, the device is copied out,
+-- `event::event` is called, the device that it returns is stored, and the borrow is closed at it.
 -- All that it knows of `event::event` is that it meets its contract. No field of a struct is named but `device` and `answer`.
 -- Assumes nothing.
 use mathlib.Core.Path.{_≡_, refl, ap}
@@ -73,7 +74,8 @@ module _ {M : Type 1} (𝓤 : URA M) (H : Heap 𝓤) (A : Atoms 𝓤) (at-mem : 
   call-of : (h : Device) (e : Event) (r : Outcome) → ent 𝓤 (ensured 𝓤 H A g.ended (g.clauses 𝓤 H A at-mem run) tt (h, (e, tt)) tt r) (fact 𝓤 (r ≡ eventOf h e))
   call-of h e r = exE 𝓤 _ (λ ws. snd∗ 𝓤 (sem 𝓤 H A (lasts g.ended tt (h, (e, tt)) ws)) (fact 𝓤 (r ≡ eventOf h e)))
 
-module _ {M : Type 1} (𝓤 : URA M) (H : Heap 𝓤) (A : Atoms 𝓤) (W : Given 𝓤 H A) (at-mem : Memory → SProp 𝓤) (run : Routine → Fun 𝓤) (κ : Lft) (q : Share) (b o : ℕ) (γ : GName) (h : Device) (e : Event) (e-is : Is E.the-row e (LL.val E.the-type E′.the-laws e ∷ [])) where
+module _ {M : Type 1} (𝓤 : URA M) (H : Heap 𝓤) (A : Atoms 𝓤) (W : Given 𝓤 H A) (at-mem : Memory → SProp 𝓤) (run : Routine
+    → Fun 𝓤) (κ : Lft) (q : Share) (b o : ℕ) (γ : GName) (h : Device) (e : Event) (e-is : Is E.the-row e (LL.val E.the-type E′.the-laws e ∷ [])) where
   -- the machine values
   abbrev dev : Device → Val
   dev = LL.val D.the-type D′.the-laws
@@ -93,11 +95,13 @@ module _ {M : Type 1} (𝓤 : URA M) (H : Heap 𝓤) (A : Atoms 𝓤) (W : Given
   abbrev Post : Val → SProp 𝓤
   Post = walkOf 𝓤 H A f.ended stayed (f.clauses 𝓤 H A at-mem run) .post (((κ, tt), (q, tt), tt, x, at), tt)
 
-  exits : (r : Outcome) → r ≡ eventOf h e → Is N.the-row (r .answer) (ans r ∷ []) → ent 𝓤 (sep 𝓤 (A .obs γ (D.the-row .coded .code (r .device))) (sep 𝓤 (A .bor κ (Body (mem D.the-row) b o γ)) (A .lft κ q))) (Post (ans r))
+  exits : (r : Outcome) → r ≡ eventOf h e → Is N.the-row (r .answer) (ans r ∷ [])
+      → ent 𝓤 (sep 𝓤 (A .obs γ (D.the-row .coded .code (r .device))) (sep 𝓤 (A .bor κ (Body (mem D.the-row) b o γ)) (A .lft κ q))) (Post (ans r))
   exits r eq is =
       qed W (‵ (fobs γ (D.the-row .coded .code (r .device))) ∷ ‵ (fbor κ (Body (mem D.the-row) b o γ)) ∷ ‵ (flft κ q) ∷ []) ∵
       suffices ! _ (ends-at 𝓤 H A f.ended stayed (f.clauses 𝓤 H A at-mem run) W (((κ, tt), (q, tt), tt, x, at), tt) (ans r) (r .answer) (r .device, (tt, tt)) (tt, (tt, tt))) $
-      says ! (ap (λ (z : Outcome). z .answer) eq, ap (λ (z : Outcome). z .device) eq) $ nothing ! $ move ! (3 ∷ 0 ∷ []) $ join ! $ frame ! $ feqI ! (List Val) (vptr b o ∷ []) (vptr b o ∷ []) refl $ fjoin3 ! $
+      says ! (ap (λ (z : Outcome). z .answer) eq, ap (λ (z : Outcome). z .device) eq) $ nothing ! $ move ! (3 ∷ 0 ∷ []) $ join ! $ frame ! $
+      feqI ! (List Val) (vptr b o ∷ []) (vptr b o ∷ []) refl $ fjoin3 ! $
       nothing ! $ owned ! E.the-row (Is E.the-row) (LL.makes E.the-type E′.the-plain 𝓤 H A) e _ e-is $ fjoin ! $ move ! (1 ∷ 0 ∷ []) $ fjoin ! $ frame ! $
       owned ! N.the-row (Is N.the-row) (LL.makes N.the-type N′.the-plain 𝓤 H A) (r .answer) _ is $ done !
 
@@ -124,22 +128,27 @@ module _ {M : Type 1} (𝓤 : URA M) (H : Heap 𝓤) (A : Atoms 𝓤) (W : Given
         assigns ! (of-opd ! (load ! (from ! (hop ! (look ! 13 refl) (stop !))) (look-raw ! 1 refl))) (from ! (stop !)) (init ! 7 refl (LL.lawful D.the-type D′.the-laws 𝓤 H A W .typed h _ was .0)) $
         use1 W (raw (Call 𝓤 H A at-mem run .pre to-call)) goes-call $
         calls-at ! fm (Call 𝓤 H A at-mem run) known to-call (and-then ! (load ! (from ! (stop !)) (look ! 7 refl)) (and-then ! (load ! (from ! (stop !)) (look ! 11 refl)) (no-more !))) (λ v.
-        use1 W (later (some (λ (r : Outcome). (‵ ftrue ⊛ ‵ (O.the-row .own r (v ∷ []))) ⊛ raw (ensured 𝓤 H A g.ended (g.clauses 𝓤 H A at-mem run) tt (h, (e, tt)) tt r)))) (id⊢ 𝓤 _) $ await ! tt $ pick ! (λ r.
+        use1 W (later (some (λ (r : Outcome). (‵ ftrue ⊛ ‵ (O.the-row .own r (v ∷ []))) ⊛ raw (ensured 𝓤 H A g.ended (g.clauses 𝓤 H A at-mem run) tt (h, (e, tt)) tt r)))) (id⊢ 𝓤 _) $
+        await ! tt $ pick ! (λ r.
         split ! $ move ! (1 ∷ []) $ use1 W (raw (fact 𝓤 (r ≡ eventOf h e))) (call-of 𝓤 H A at-mem run h e r) $ heard ! (r ≡ eventOf h e) (λ eq. split ! $ drop ! $
         peeks ! O.the-row (Is O.the-row) (shows 𝓤 H A O.the-row) r (v ∷ []) (λ is. drop ! $
-        land ! (from ! (stop !)) (init ! 8 refl (LL.lawful O.the-type O′.the-laws 𝓤 H A W .typed r _ is .0)) $ rewrite ! 8 (λ (u : Val). ‵ (fat fullShare O′.mir l₃ 0 u)) (ap only (LL.tells O.the-type O′.the-laws r _ is)) refl $
+        land ! (from ! (stop !)) (init ! 8 refl (LL.lawful O.the-type O′.the-laws 𝓤 H A W .typed r _ is .0)) $
+        rewrite ! 8 (λ (u : Val). ‵ (fat fullShare O′.mir l₃ 0 u)) (ap only (LL.tells O.the-type O′.the-laws r _ is)) refl $
         -- [the device's cell; the open borrow; obs; auth; true; the event's; _4; …; _3; …; _2; …; _1; …; room for _0; …]: the new device is stored
         assigns ! (of-opd ! (load ! (from ! (fld ! refl (stop !))) (look-in ! 8 (sub ! 0 refl (whole !))))) (from ! (hop ! (look ! 12 refl) (stop !)))
         (store-raw ! 0 refl (LL.lawful D.the-type D′.the-laws 𝓤 H A W .typed (r .device) _ (LL.owed O.the-type O′.the-laws r _ is .0) .0)) $
-        assigns ! (of-opd ! (load ! (from ! (fld ! refl (stop !))) (look-in ! 8 (sub ! 1 refl (whole !))))) (from ! (stop !)) (init ! 14 refl (LL.lawful N.the-type N′.the-laws 𝓤 H A W .typed (r .answer) _ (LL.owed O.the-type O′.the-laws r _ is .1 .0) .0)) $
-        owned ! D.the-row (Is D.the-row) (LL.makes D.the-type D′.the-plain 𝓤 H A) (r .device) _ (LL.owed O.the-type O′.the-laws r _ is .0) $ move ! (1 ∷ 0 ∷ []) $ closes ! tt D.the-row (r .device) (dev (r .device) ∷ []) b o $
+        assigns ! (of-opd ! (load ! (from ! (fld ! refl (stop !))) (look-in ! 8 (sub ! 1 refl (whole !))))) (from ! (stop !))
+        (init ! 14 refl (LL.lawful N.the-type N′.the-laws 𝓤 H A W .typed (r .answer) _ (LL.owed O.the-type O′.the-laws r _ is .1 .0) .0)) $
+        owned ! D.the-row (Is D.the-row) (LL.makes D.the-type D′.the-plain 𝓤 H A) (r .device) _ (LL.owed O.the-type O′.the-laws r _ is .0) $ move ! (1 ∷ 0 ∷ []) $
+        closes ! tt D.the-row (r .device) (dev (r .device) ∷ []) b o $
         returns ! (look ! 13 refl) $ forget ! 5 refl $ forget ! 7 refl $ forget ! 9 refl $ forget ! 11 refl $ forget ! 13 refl $
         move ! (13 ∷ 14 ∷ []) $ free1 ! $ move ! (11 ∷ 12 ∷ []) $ free1 ! $ move ! (9 ∷ 10 ∷ []) $ free1 ! $ move ! (7 ∷ 8 ∷ []) $ free1 ! $ move ! (5 ∷ 6 ∷ []) $ free1 ! $ free0 ! $
         keep ! (0 ∷ 1 ∷ 2 ∷ []) $ by ! (exits r eq (LL.owed O.the-type O′.the-laws r _ is .1 .0)))))))))))))
 
 module _ {M : Type 1} (𝓤 : URA M) (H : Heap 𝓤) (A : Atoms 𝓤) (W : Given 𝓤 H A) (at-mem : Memory → SProp 𝓤) (run : Routine → Fun 𝓤) where
   f-walks : (C : Calls 𝓤 H) (Λ : Loops 𝓤 H) → FmC 𝓤 H (W .laws) C → Triple 𝓤 (C #g) (Call 𝓤 H A at-mem run) → Walks 𝓤 H A f.ended stayed (WpFn 𝓤 H C Λ code.function) (f.clauses 𝓤 H A at-mem run)
-  f-walks C Λ fm known = walked 𝓤 H A f.ended stayed (f.clauses 𝓤 H A at-mem run) (WpFn 𝓤 H C Λ code.function) (λ κs. (ptr-vals, (LL.vals E.the-type E′.the-laws, tt))) (λ κs. (mut-tells (named 0) (κs .0) D.the-row, (LL.tells E.the-type E′.the-laws, tt)))
+  f-walks C Λ fm known = walked 𝓤 H A f.ended stayed (f.clauses 𝓤 H A at-mem run) (WpFn 𝓤 H C Λ code.function) (λ κs. (ptr-vals, (LL.vals E.the-type E′.the-laws, tt)))
+      (λ κs. (mut-tells (named 0) (κs .0) D.the-row, (LL.tells E.the-type E′.the-laws, tt)))
       (λ κs qs bounds a g are. via 𝓤 _ (fst∗ 𝓤 _ (emp 𝓤)) (walk 𝓤 H A W at-mem run (κs .0) (qs .0) (a .0 .ptr .0) (a .0 .ptr .1) (a .0 .name) (a .0 .now) (a .1 .0) (are .1 .0) C Λ fm known))
 
   goes : AllGo 𝓤 H A W 1 (f.signature .params) (f.ended .kept) stayed

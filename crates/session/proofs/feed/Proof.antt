@@ -9,7 +9,7 @@ use lib.ListN.{length}
 use denote.Ref.{now}
 use Rattle.texts.specs.Kept.{textRoom}
 use Rattle.session.specs.declared.Fed.{Fed}
-use Rattle.lines.proofs.Tests.{both}
+use Rattle.basics.proofs.Tests.{both}
 use Rattle.session.proofs.Feeding.{SoFar, none-yet, one-more, at-end, len-within, out-length, fed-on}
 use Rattle.session.proofs.feed.Statement.{statement}
 use Rattle.session.proofs.feed.Tie as tie
@@ -25,8 +25,9 @@ loop-holds c = none-yet _ _ _ _
 
 add-if1 : tie.Need-add-if1 Inv-loop μ-loop
 add-if1 c =
-    let l = c .before .before .loop in
-    let a = c .before .before .before .before .before .args in
+    let at-loop = c .before .before in
+    let l = at-loop .loop in
+    let a = at-loop .before .before .before .args in
     let n = len-within (a .s) (now (a .piece)) (a .at) (now (a .out)) (l .f) (l .out) (l .inv) in
     let o = out-length (a .s) (now (a .piece)) (a .at) (now (a .out)) (l .f) (l .out) (l .inv) in
     omega arith
@@ -36,8 +37,9 @@ going : (c : tie.Then1 Inv-loop μ-loop)
     → (c .before .before .before .loop .f .next < length (now (c .before .before .before .before .before .before .args .piece)))
     × (c .before .before .before .loop .f .len + textRoom ≤ length (c .before .before .before .loop .out))
 going c =
-    let l = c .before .before .before .loop in
-    let piece = now (c .before .before .before .before .before .before .args .piece) in
+    let at-loop = c .before .before .before in
+    let l = at-loop .loop in
+    let piece = now (at-loop .before .before .before .args .piece) in
     let e = both (ltb (l .f .next) (length piece)) (leb (l .f .len + textRoom) (length (l .out))) (c .if1 .taken) in
     (ltb-true (l .f .next) (length piece) (e .0), leb-true (l .f .len + textRoom) (length (l .out)) (e .1))
 
@@ -46,32 +48,37 @@ take-line-requires c κs = going (c .before) .1
 
 loop-less : tie.Need-loop-less Inv-loop μ-loop
 loop-less c =
-    let t = c .before .before in
-    let l = c .before .before .before .before .before .before .before .loop in
-    let piece = now (c .before .before .before .before .before .before .before .before .before .before .args .piece) in
-    let g = going (c .before .before .before .before) .0 in
-    let h = fed-on (l .f) piece g in
-    let n = ap (λ (f : Fed). f .next) (t .take-line .ensures .0) in
+    let at-line = c .before .before in
+    let at-test = at-line .before .before in
+    let at-loop = at-test .before .before .before in
+    let piece = now (at-loop .before .before .before .args .piece) in
+    let g = going at-test .0 in
+    let h = fed-on (at-loop .loop .f) piece g in
+    let n = ap (λ (f : Fed). f .next) (at-line .take-line .ensures .0) in
     omega arith
 
 loop-again : tie.Need-loop-again Inv-loop μ-loop
 loop-again c =
-    let t = c .before .before in
-    let l = c .before .before .before .before .before .before .before .loop in
-    let a = c .before .before .before .before .before .before .before .before .before .before .args in
-    one-more (a .s) (now (a .piece)) (a .at) (now (a .out)) (l .f) (l .out) (l .inv) (t .take-line .result) _ (going (c .before .before .before .before) .1)
-    (t .take-line .ensures .0) (t .take-line .ensures .1)
+    let at-line = c .before .before in
+    let at-test = at-line .before .before in
+    let at-loop = at-test .before .before .before in
+    let l = at-loop .loop in
+    let a = at-loop .before .before .before .args in
+    let told = at-line .take-line .ensures in
+    one-more (a .s) (now (a .piece)) (a .at) (now (a .out)) (l .f) (l .out) (l .inv) (at-line .take-line .result) _ (going at-test .1) (told .0) (told .1)
 
 same-length : tie.Need-same-length Inv-loop μ-loop
 same-length c =
-    let l = c .before .before .before .loop in
-    let a = c .before .before .before .before .before .before .args in
+    let at-loop = c .before .before .before in
+    let l = at-loop .loop in
+    let a = at-loop .before .before .before .args in
     out-length (a .s) (now (a .piece)) (a .at) (now (a .out)) (l .f) (l .out) (l .inv)
 
 returns : tie.Need-returns Inv-loop μ-loop
 returns c =
-    let l = c .before .before .before .loop in
-    let a = c .before .before .before .before .before .before .args in
+    let at-loop = c .before .before .before in
+    let l = at-loop .loop in
+    let a = at-loop .before .before .before .args in
     let e = at-end (a .s) (now (a .piece)) (a .at) (now (a .out)) (l .f) (l .out) (l .inv) (c .if1 .left) in
     (e .0, (e .1, len-within (a .s) (now (a .piece)) (a .at) (now (a .out)) (l .f) (l .out) (l .inv)))
 

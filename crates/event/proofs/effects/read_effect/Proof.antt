@@ -25,7 +25,7 @@ effect-requires-2 c κs = search needs
 
 returns-2 : tie.Need-returns-2
 unfolding readEffect
-returns-2 c = 
+returns-2 c =
     let at-after = c .before .before in
     let at-if = at-after .before in
     simp (sym (at-if .before .is-held .ensures) ∙ at-if .if1 .left, at-after .after-read .ensures, c .before .read .ensures, c .effect2 .ensures)

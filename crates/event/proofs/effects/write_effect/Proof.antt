@@ -25,7 +25,7 @@ effect-requires-2 c κs = search needs
 
 returns-2 : tie.Need-returns-2
 unfolding writeEffect
-returns-2 c = 
+returns-2 c =
     let at-write = c .before .before in
     let at-if = at-write .before in
     simp (sym (at-if .before .is-held .ensures) ∙ at-if .if1 .left, at-write .write .ensures, c .before .step .ensures, c .effect2 .ensures)

@@ -25,8 +25,8 @@ clocks-requires c κs = search needs
 
 returns-3 : tie.Need-returns-3
 returns-3 c =
-    let e = c .before .before .before in
-    c .clocks .ensures ∙ sym (clocks-line (now (e .before .before .before .args .s)) (e .before .if1 .left) (e .if2 .left) (c .before .if3 .taken))
+    let at-some = c .before .before .before in
+    c .clocks .ensures ∙ sym (clocks-line (now (at-some .before .before .before .args .s)) (at-some .before .if1 .left) (at-some .if2 .left) (c .before .if3 .taken))
 
 bare-requires : tie.Need-bare-requires
 bare-requires c κs = search needs
@@ -60,47 +60,47 @@ with-three-requires c κs = search needs
 
 returns-4 : tie.Need-returns-4
 returns-4 c =
-    let o = c .before .before in
-    let e = o .before .before in
-    let s = now (e .before .before .before .args .s) in
+    let at-letter = c .before .before in
+    let at-some = at-letter .before .before in
+    let s = now (at-some .before .before .before .args .s) in
     c .bare .ensures
-    ∙ sym (bare-line s (e .before .if1 .left) (e .if2 .left) (o .if3 .left) (c .before .match .keys1))
+    ∙ sym (bare-line s (at-some .before .if1 .left) (at-some .if2 .left) (at-letter .if3 .left) (c .before .match .keys1))
 
 returns-5 : tie.Need-returns-5
 returns-5 c =
-    let o = c .before .before .before in
-    let e = o .before .before in
-    let s = now (e .before .before .before .args .s) in
+    let at-letter = c .before .before .before in
+    let at-some = at-letter .before .before in
+    let s = now (at-some .before .before .before .args .s) in
     c .with-one .ensures ∙ ap (λ (a : ℕ). saidBy (getD s 0 0) (a ∷ [])) (c .before .number .ensures)
-    ∙ sym (one-line s (e .before .if1 .left) (e .if2 .left) (o .if3 .left) (c .before .before .match .keys2))
+    ∙ sym (one-line s (at-some .before .if1 .left) (at-some .if2 .left) (at-letter .if3 .left) (c .before .before .match .keys2))
 
 returns-6 : tie.Need-returns-6
 returns-6 c =
-    let o = c .before .before .before .before in
-    let e = o .before .before in
-    let s = now (e .before .before .before .args .s) in
+    let at-letter = c .before .before .before .before in
+    let at-some = at-letter .before .before in
+    let s = now (at-some .before .before .before .args .s) in
     c .with-two .ensures ∙ ap (λ (b : ℕ). saidBy (getD s 0 0) (c .before .before .number2 .result ∷ b ∷ [])) (c .before .number3 .ensures)
     ∙ ap (λ (a : ℕ). saidBy (getD s 0 0) (a ∷ numberAt s 4 ∷ [])) (c .before .before .number2 .ensures)
-    ∙ sym (two-line s (e .before .if1 .left) (e .if2 .left) (o .if3 .left) (c .before .before .before .match .keys3))
+    ∙ sym (two-line s (at-some .before .if1 .left) (at-some .if2 .left) (at-letter .if3 .left) (c .before .before .before .match .keys3))
 
 returns-7 : tie.Need-returns-7
 returns-7 c =
-    let o = c .before .before .before .before .before in
-    let e = o .before .before in
-    let s = now (e .before .before .before .args .s) in
+    let at-letter = c .before .before .before .before .before in
+    let at-some = at-letter .before .before in
+    let s = now (at-some .before .before .before .args .s) in
     c .with-three .ensures
     ∙ ap (λ (d : ℕ). saidBy (getD s 0 0) (c .before .before .before .number4 .result ∷ c .before .before .number5 .result ∷ d ∷ [])) (c .before .number6 .ensures)
     ∙ ap (λ (b : ℕ). saidBy (getD s 0 0) (c .before .before .before .number4 .result ∷ b ∷ numberAt s 7 ∷ [])) (c .before .before .number5 .ensures)
     ∙ ap (λ (a : ℕ). saidBy (getD s 0 0) (a ∷ numberAt s 4 ∷ numberAt s 7 ∷ [])) (c .before .before .before .number4 .ensures)
-    ∙ sym (three-line s (e .before .if1 .left) (e .if2 .left) (o .if3 .left) (c .before .before .before .before .match .keys4))
+    ∙ sym (three-line s (at-some .before .if1 .left) (at-some .if2 .left) (at-letter .if3 .left) (c .before .before .before .before .match .keys4))
 
 returns-8 : tie.Need-returns-8
 returns-8 c =
-    let o = c .before in
-    let e = o .before .before in
+    let at-letter = c .before in
+    let at-some = at-letter .before .before in
     let r = c .match .rest in
     sym
-    (other-line (now (e .before .before .before .args .s)) (e .before .if1 .left) (e .if2 .left) (o .if3 .left) (r .0 .0 .0 .1) (r .0 .0 .1) (r .0 .1) (r .1))
+    (other-line (now (at-some .before .before .before .args .s)) (at-some .before .if1 .left) (at-some .if2 .left) (at-letter .if3 .left) (r .0 .0 .0 .1) (r .0 .0 .1) (r .0 .1) (r .1))
 
 pub meaning-spec : {M : Type 1} → statement M
 meaning-spec =

@@ -1,186 +1,106 @@
--- `code_of` meets its contract: each way out knows the test that it took and those that it passed.
+-- `code_of` meets its contract: each code is joined to those of the tests after it, as the definition joins them.
 -- Assumes nothing.
-use mathlib.Core.Path.{sym, _∙_}
-use borrow.Author.Tests.{not-true, not-false}
 use Rattle.rules.specs.Events.{codeOf}
 use borrow.Author.Needs.{needs}
 use Rattle.refusals.proofs.codes.code_of.Statement.{statement}
 use Rattle.refusals.proofs.codes.code_of.Tie as tie
 
-sound-requires : tie.Need-sound-requires
-sound-requires c κs = search needs
+is-unrequested-requires : tie.Need-is-unrequested-requires
+is-unrequested-requires c κs = search needs
 
-returns : tie.Need-returns
-unfolding codeOf
-returns c =
-    let at-sound = c in
-    simp (sym (at-sound .before .sound .ensures) ∙ not-true _ (at-sound .if1 .taken))
-
-is-unknown-requires : tie.Need-is-unknown-requires
-is-unknown-requires c κs = search needs
-
-returns-2 : tie.Need-returns-2
-unfolding codeOf
-returns-2 c =
-    let at-is-unknown = c in
-    let at-sound = at-is-unknown .before .before in
-    simp
-    (sym (at-sound .before .sound .ensures) ∙ not-false _ (at-sound .if1 .left),
-    sym (at-is-unknown .before .is-unknown .ensures) ∙ at-is-unknown .if2 .taken)
-
-has-no-register-requires : tie.Need-has-no-register-requires
-has-no-register-requires c κs = search needs
-
-returns-3 : tie.Need-returns-3
-unfolding codeOf
-returns-3 c =
-    let at-has-no-register = c in
-    let at-is-unknown = at-has-no-register .before .before in
-    let at-sound = at-is-unknown .before .before in
-    simp
-    (sym (at-sound .before .sound .ensures) ∙ not-false _ (at-sound .if1 .left),
-    sym (at-is-unknown .before .is-unknown .ensures) ∙ at-is-unknown .if2 .left,
-    sym (at-has-no-register .before .has-no-register .ensures) ∙ at-has-no-register .if3 .taken)
-
-is-too-large-requires : tie.Need-is-too-large-requires
-is-too-large-requires c κs = search needs
-
-returns-4 : tie.Need-returns-4
-unfolding codeOf
-returns-4 c =
-    let at-is-too-large = c in
-    let at-has-no-register = at-is-too-large .before .before in
-    let at-is-unknown = at-has-no-register .before .before in
-    let at-sound = at-is-unknown .before .before in
-    simp
-    (sym (at-sound .before .sound .ensures) ∙ not-false _ (at-sound .if1 .left),
-    sym (at-is-unknown .before .is-unknown .ensures) ∙ at-is-unknown .if2 .left,
-    sym (at-has-no-register .before .has-no-register .ensures) ∙ at-has-no-register .if3 .left,
-    sym (at-is-too-large .before .is-too-large .ensures) ∙ at-is-too-large .if4 .taken)
-
-is-held-requires : tie.Need-is-held-requires
-is-held-requires c κs = search needs
-
-returns-5 : tie.Need-returns-5
-unfolding codeOf
-returns-5 c =
-    let at-is-held = c in
-    let at-is-too-large = at-is-held .before .before in
-    let at-has-no-register = at-is-too-large .before .before in
-    let at-is-unknown = at-has-no-register .before .before in
-    let at-sound = at-is-unknown .before .before in
-    simp
-    (sym (at-sound .before .sound .ensures) ∙ not-false _ (at-sound .if1 .left),
-    sym (at-is-unknown .before .is-unknown .ensures) ∙ at-is-unknown .if2 .left,
-    sym (at-has-no-register .before .has-no-register .ensures) ∙ at-has-no-register .if3 .left,
-    sym (at-is-too-large .before .is-too-large .ensures) ∙ at-is-too-large .if4 .left,
-    sym (at-is-held .before .is-held .ensures) ∙ at-is-held .if5 .taken)
-
-is-read-only-requires : tie.Need-is-read-only-requires
-is-read-only-requires c κs = search needs
-
-returns-6 : tie.Need-returns-6
-unfolding codeOf
-returns-6 c =
-    let at-is-read-only = c in
-    let at-is-held = at-is-read-only .before .before in
-    let at-is-too-large = at-is-held .before .before in
-    let at-has-no-register = at-is-too-large .before .before in
-    let at-is-unknown = at-has-no-register .before .before in
-    let at-sound = at-is-unknown .before .before in
-    simp
-    (sym (at-sound .before .sound .ensures) ∙ not-false _ (at-sound .if1 .left),
-    sym (at-is-unknown .before .is-unknown .ensures) ∙ at-is-unknown .if2 .left,
-    sym (at-has-no-register .before .has-no-register .ensures) ∙ at-has-no-register .if3 .left,
-    sym (at-is-too-large .before .is-too-large .ensures) ∙ at-is-too-large .if4 .left,
-    sym (at-is-held .before .is-held .ensures) ∙ at-is-held .if5 .left,
-    sym (at-is-read-only .before .is-read-only .ensures) ∙ at-is-read-only .if6 .taken)
+or-else-requires : tie.Need-or-else-requires
+or-else-requires c κs = search needs
 
 is-later-requires : tie.Need-is-later-requires
 is-later-requires c κs = search needs
 
-returns-7 : tie.Need-returns-7
-unfolding codeOf
-returns-7 c =
-    let at-is-later = c in
-    let at-is-read-only = at-is-later .before .before in
-    let at-is-held = at-is-read-only .before .before in
-    let at-is-too-large = at-is-held .before .before in
-    let at-has-no-register = at-is-too-large .before .before in
-    let at-is-unknown = at-has-no-register .before .before in
-    let at-sound = at-is-unknown .before .before in
-    simp
-    (sym (at-sound .before .sound .ensures) ∙ not-false _ (at-sound .if1 .left),
-    sym (at-is-unknown .before .is-unknown .ensures) ∙ at-is-unknown .if2 .left,
-    sym (at-has-no-register .before .has-no-register .ensures) ∙ at-has-no-register .if3 .left,
-    sym (at-is-too-large .before .is-too-large .ensures) ∙ at-is-too-large .if4 .left,
-    sym (at-is-held .before .is-held .ensures) ∙ at-is-held .if5 .left,
-    sym (at-is-read-only .before .is-read-only .ensures) ∙ at-is-read-only .if6 .left,
-    sym (at-is-later .before .is-later .ensures) ∙ at-is-later .if7 .taken)
+or-else-requires-2 : tie.Need-or-else-requires-2
+or-else-requires-2 c κs = search needs
 
-is-unrequested-requires : tie.Need-is-unrequested-requires
-is-unrequested-requires c κs = search needs
+is-read-only-requires : tie.Need-is-read-only-requires
+is-read-only-requires c κs = search needs
 
-returns-8 : tie.Need-returns-8
-unfolding codeOf
-returns-8 c =
-    let at-is-unrequested = c in
-    let at-is-later = at-is-unrequested .before .before in
-    let at-is-read-only = at-is-later .before .before in
-    let at-is-held = at-is-read-only .before .before in
-    let at-is-too-large = at-is-held .before .before in
-    let at-has-no-register = at-is-too-large .before .before in
-    let at-is-unknown = at-has-no-register .before .before in
-    let at-sound = at-is-unknown .before .before in
-    simp
-    (sym (at-sound .before .sound .ensures) ∙ not-false _ (at-sound .if1 .left),
-    sym (at-is-unknown .before .is-unknown .ensures) ∙ at-is-unknown .if2 .left,
-    sym (at-has-no-register .before .has-no-register .ensures) ∙ at-has-no-register .if3 .left,
-    sym (at-is-too-large .before .is-too-large .ensures) ∙ at-is-too-large .if4 .left,
-    sym (at-is-held .before .is-held .ensures) ∙ at-is-held .if5 .left,
-    sym (at-is-read-only .before .is-read-only .ensures) ∙ at-is-read-only .if6 .left,
-    sym (at-is-later .before .is-later .ensures) ∙ at-is-later .if7 .left,
-    sym (at-is-unrequested .before .is-unrequested .ensures) ∙ at-is-unrequested .if8 .taken)
+or-else-requires-3 : tie.Need-or-else-requires-3
+or-else-requires-3 c κs = search needs
 
-returns-9 : tie.Need-returns-9
+is-held-requires : tie.Need-is-held-requires
+is-held-requires c κs = search needs
+
+or-else-requires-4 : tie.Need-or-else-requires-4
+or-else-requires-4 c κs = search needs
+
+is-too-large-requires : tie.Need-is-too-large-requires
+is-too-large-requires c κs = search needs
+
+or-else-requires-5 : tie.Need-or-else-requires-5
+or-else-requires-5 c κs = search needs
+
+has-no-register-requires : tie.Need-has-no-register-requires
+has-no-register-requires c κs = search needs
+
+or-else-requires-6 : tie.Need-or-else-requires-6
+or-else-requires-6 c κs = search needs
+
+is-unknown-requires : tie.Need-is-unknown-requires
+is-unknown-requires c κs = search needs
+
+or-else-requires-7 : tie.Need-or-else-requires-7
+or-else-requires-7 c κs = search needs
+
+sound-requires : tie.Need-sound-requires
+sound-requires c κs = search needs
+
+or-else-requires-8 : tie.Need-or-else-requires-8
+or-else-requires-8 c κs = search needs
+
+returns : tie.Need-returns
 unfolding codeOf
-returns-9 c =
-    let at-is-unrequested = c in
-    let at-is-later = at-is-unrequested .before .before in
-    let at-is-read-only = at-is-later .before .before in
-    let at-is-held = at-is-read-only .before .before in
-    let at-is-too-large = at-is-held .before .before in
-    let at-has-no-register = at-is-too-large .before .before in
-    let at-is-unknown = at-has-no-register .before .before in
-    let at-sound = at-is-unknown .before .before in
-    simp
-    (sym (at-sound .before .sound .ensures) ∙ not-false _ (at-sound .if1 .left),
-    sym (at-is-unknown .before .is-unknown .ensures) ∙ at-is-unknown .if2 .left,
-    sym (at-has-no-register .before .has-no-register .ensures) ∙ at-has-no-register .if3 .left,
-    sym (at-is-too-large .before .is-too-large .ensures) ∙ at-is-too-large .if4 .left,
-    sym (at-is-held .before .is-held .ensures) ∙ at-is-held .if5 .left,
-    sym (at-is-read-only .before .is-read-only .ensures) ∙ at-is-read-only .if6 .left,
-    sym (at-is-later .before .is-later .ensures) ∙ at-is-later .if7 .left,
-    sym (at-is-unrequested .before .is-unrequested .ensures) ∙ at-is-unrequested .if8 .left)
+returns c =
+    let from-9 = c in
+    let from-1 = from-9 .before .before in
+    let from-2 = from-1 .before .before in
+    let from-5 = from-2 .before .before in
+    let from-hold = from-5 .before .before in
+    let from-3 = from-hold .before .before in
+    let from-4 = from-3 .before .before in
+    let from-6 = from-4 .before .before in
+    simp (
+      from-9 .or-else8 .ensures,
+      from-9 .before .sound .ensures,
+      from-1 .or-else7 .ensures,
+      from-1 .before .is-unknown .ensures,
+      from-2 .or-else6 .ensures,
+      from-2 .before .has-no-register .ensures,
+      from-5 .or-else5 .ensures,
+      from-5 .before .is-too-large .ensures,
+      from-hold .or-else4 .ensures,
+      from-hold .before .is-held .ensures,
+      from-3 .or-else3 .ensures,
+      from-3 .before .is-read-only .ensures,
+      from-4 .or-else2 .ensures,
+      from-4 .before .is-later .ensures,
+      from-6 .or-else .ensures,
+      from-6 .before .is-unrequested .ensures,
+    )
 
 pub code-of-spec : {M : Type 1} → statement M
 code-of-spec =
     tie.close
     (tie.spec
-    sound-requires
-    returns
-    is-unknown-requires
-    returns-2
-    has-no-register-requires
-    returns-3
-    is-too-large-requires
-    returns-4
-    is-held-requires
-    returns-5
-    is-read-only-requires
-    returns-6
-    is-later-requires
-    returns-7
     is-unrequested-requires
-    returns-8
-    returns-9)
+    or-else-requires
+    is-later-requires
+    or-else-requires-2
+    is-read-only-requires
+    or-else-requires-3
+    is-held-requires
+    or-else-requires-4
+    is-too-large-requires
+    or-else-requires-5
+    has-no-register-requires
+    or-else-requires-6
+    is-unknown-requires
+    or-else-requires-7
+    sound-requires
+    or-else-requires-8
+    returns)

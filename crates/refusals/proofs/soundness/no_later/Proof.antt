@@ -63,13 +63,20 @@ returns c =
     let s3 = s4 .before .before in
     let s2 = s3 .before .before in
     let s1 = s2 .before .before in
-    simp
-    (s1 .later-config .ensures, s1 .before .wide .ensures,
-    s2 .later-port-mode .ensures, s2 .before .wide2 .ensures,
-    s3 .later-port-mode2 .ensures, s3 .before .wide3 .ensures,
-    s4 .later-counter-mode .ensures, s4 .before .wide4 .ensures,
-    s5 .later-counter-mode2 .ensures, s5 .before .wide5 .ensures,
-    s6 .later-counter-mode3 .ensures, s6 .before .wide6 .ensures)
+    simp (
+      s1 .later-config .ensures,
+      s1 .before .wide .ensures,
+      s2 .later-port-mode .ensures,
+      s2 .before .wide2 .ensures,
+      s3 .later-port-mode2 .ensures,
+      s3 .before .wide3 .ensures,
+      s4 .later-counter-mode .ensures,
+      s4 .before .wide4 .ensures,
+      s5 .later-counter-mode2 .ensures,
+      s5 .before .wide5 .ensures,
+      s6 .later-counter-mode3 .ensures,
+      s6 .before .wide6 .ensures,
+    )
 
 pub no-later-spec : {M : Type 1} → statement M
 no-later-spec =
