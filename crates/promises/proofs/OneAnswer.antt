@@ -13,8 +13,10 @@ use Rattle.basics.specs.Byte.{byteIn, byteOf, withByte}
 use Rattle.bodies.specs.Taken.{recordIn, unusedClear}
 use Rattle.bodies.specs.Written.{bodiesOf}
 use Rattle.image.specs.Image.{restoredOf, saveCode, savedOf}
+use Rattle.input.specs.Input.{unread}
 use Rattle.lines.specs.Lines.{eventIn, saysOf}
 use Rattle.lines.specs.Pieces.{cutFrom}
+use Rattle.measure.specs.Measure.{measureStart, measuredOf, tableOf}
 use Rattle.phrases.specs.Refusals.{refusal, trouble}
 use Rattle.registers.specs.Place.{place}
 use Rattle.rules.specs.Access.{afterRead, readOf, writtenOf}
@@ -63,6 +65,9 @@ use Rattle.words.proofs.line as words·line
 use Rattle.phrases.proofs.word as phrases·word
 use Rattle.phrases.proofs.refusal_line as phrases·refusal-line
 use Rattle.phrases.proofs.trouble_line as phrases·trouble-line
+use Rattle.measure.proofs.Measure.start as measure·Measure-start
+use Rattle.measure.proofs.table as measure·table
+use Rattle.measure.proofs.event as measure·event
 use Rattle.basics.proofs.weight as basics·weight
 use Rattle.basics.proofs.byte_in as basics·byte-in
 use Rattle.basics.proofs.with_byte as basics·with-byte
@@ -75,6 +80,7 @@ use Rattle.counters.proofs.command as counters·command
 use Rattle.image_in.proofs.device as image-in·device
 use Rattle.image_in.proofs.clear as image-in·clear
 use Rattle.image_out.proofs.bodies as image-out·bodies
+use Rattle.input.proofs.start as input·start
 use Rattle.interrupts.proofs.requester_of as interrupts·requester-of
 use Rattle.interrupts.proofs.int as interrupts·int
 use Rattle.interrupts.proofs.ieo as interrupts·ieo
@@ -203,6 +209,15 @@ module _ {M : Type 1} (𝓤 : URA M) where
       one-result 𝓤 phrases·trouble-line.ended (phrases·trouble-line.clauses 𝓤)
       (λ κs a. typed noText (trouble (a .0) (a .1 .0))) refl
 
+  pub measure-Measure-start : OneResult 𝓤 measure·Measure-start.ended (measure·Measure-start.clauses 𝓤)
+  measure-Measure-start = one-result 𝓤 measure·Measure-start.ended (measure·Measure-start.clauses 𝓤) (λ κs a. measureStart) refl
+
+  pub measure-table : OneResult 𝓤 measure·table.ended (measure·table.clauses 𝓤)
+  measure-table = one-result 𝓤 measure·table.ended (measure·table.clauses 𝓤) (λ κs a. tableOf (a .0)) refl
+
+  pub measure-event : OneResult 𝓤 measure·event.ended (measure·event.clauses 𝓤)
+  measure-event = one-result 𝓤 measure·event.ended (measure·event.clauses 𝓤) (λ κs a. measuredOf (a .0) (a .1 .0) (a .1 .1 .0)) refl
+
   -- the calls between the crates
   pub basics-weight : OneResult 𝓤 basics·weight.ended (basics·weight.clauses 𝓤)
   basics-weight =
@@ -252,6 +267,9 @@ module _ {M : Type 1} (𝓤 : URA M) where
 
   pub image-out-bodies : OneResult 𝓤 image-out·bodies.ended (image-out·bodies.clauses 𝓤)
   image-out-bodies = one-result 𝓤 image-out·bodies.ended (image-out·bodies.clauses 𝓤) (λ κs a. bodiesOf (a .0)) refl
+
+  pub input-start : OneResult 𝓤 input·start.ended (input·start.clauses 𝓤)
+  input-start = one-result 𝓤 input·start.ended (input·start.clauses 𝓤) (λ κs a. unread) refl
 
   pub interrupts-requester-of : OneResult 𝓤 interrupts·requester-of.ended (interrupts·requester-of.clauses 𝓤)
   interrupts-requester-of =

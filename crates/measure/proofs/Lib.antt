@@ -1,0 +1,11 @@
+pub mod Stays
+pub mod Over
+pub mod Ticked
+pub mod Search
+pub mod WaitLaws
+pub mod Calls
+pub mod Kept
+pub mod Traces
+pub mod Measuring
+pub mod Answers
+pub mod Cuts

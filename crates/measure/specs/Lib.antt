@@ -1,0 +1,4 @@
+pub mod Wait
+pub mod Measure
+pub mod Rise
+pub mod Kept

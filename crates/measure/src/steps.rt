@@ -1,0 +1,99 @@
+// What an accepted event does to the measure, source by source.
+ghost use mathlib.Core.Path.{_≡_};
+ghost use Prim.Native.Nat.{_+_, _≤_, _<_};
+ghost use Rattle.rules.specs.Record.{sourceAt};
+ghost use Rattle.rules.specs.Step.{ranOf};
+ghost use Rattle.measure.specs.Wait.{moved as movedOf};
+ghost use Rattle.measure.specs.Measure.{waitAt, mostClocks, stepped as steppedOf, clearsBy, clears as clearsOf, ticked as tickedOf, taken as takenOf};
+ghost use Rattle.measure.specs.Rise.{waited};
+use crate::Measure;
+use crate::Wait;
+use crate::rises;
+use crate::waits;
+use rules::Device;
+use rules::Event;
+
+// Whether an event clears IP of the source with this command register.
+fn clears(e: Event, command: u32) -> bool
+    ensures { λ r. ⌜ r ≡ clearsBy e command ⌝ }
+{
+    let n = e.b / 32;
+    (e.kind == Event::W) & (e.a == command) & ((n == 1) | (n == 5))
+}
+
+// Source k in a step from d to f.
+fn stepped_at(k: usize, cleared: bool, d: Device, f: Device, m: Measure) -> Wait
+    requires { ⌜ k < 5 ⌝ }
+    ensures { λ r. ⌜ r ≡ movedOf (sourceAt d k .ip) cleared (sourceAt f k .ip) (m .clocks) (waitAt m k) ⌝ }
+{
+    let was = d.sources[k].ip;
+    let is = f.sources[k].ip;
+    let w = m.waits[k];
+    waits::moved(was, cleared, is, m.clocks, w)
+}
+
+// A step, or what is no clock and no K, from d to f.
+pub fn stepped(e: Event, d: Device, f: Device, m: Measure) -> Measure
+    ensures { λ r. ⌜ r ≡ steppedOf (clearsOf e) d f m ⌝ }
+{
+    Measure {
+        clocks: m.clocks,
+        waits: [
+            stepped_at(0, clears(e, 0x0C), d, f, m),
+            stepped_at(1, clears(e, 0x08), d, f, m),
+            stepped_at(2, clears(e, 0x0B), d, f, m),
+            stepped_at(3, clears(e, 0x09), d, f, m),
+            stepped_at(4, clears(e, 0x0A), d, f, m),
+        ],
+    }
+}
+
+// Source k over the n clocks of a T, from d to f.
+fn over(k: usize, n: u32, d: Device, f: Device, m: Measure) -> Wait
+    requires { ⌜ (k < 5) × (0 < n) × (f ≡ ranOf n d .device) × (m .clocks + n ≤ mostClocks) ⌝ }
+    ensures { λ r. ⌜ r ≡ waited k d (m .clocks) (waitAt m k) n ⌝ }
+{
+    let w = m.waits[k];
+    if d.sources[k].ip {
+        return w;
+    }
+    if f.sources[k].ip {
+        let r = rises::rise(k, d, n);
+        return waits::begun(m.clocks + r, w);
+    }
+    waits::dropped(w)
+}
+
+// T n, from d to f.
+pub fn ticked(n: u32, d: Device, f: Device, m: Measure) -> Measure
+    requires { ⌜ (f ≡ ranOf n d .device) × (m .clocks + n ≤ mostClocks) ⌝ }
+    ensures { λ r. ⌜ r ≡ tickedOf n d m ⌝ }
+{
+    if n == 0 {
+        return m;
+    }
+    Measure {
+        clocks: m.clocks + n,
+        waits: [
+            over(0, n, d, f, m),
+            over(1, n, d, f, m),
+            over(2, n, d, f, m),
+            over(3, n, d, f, m),
+            over(4, n, d, f, m),
+        ],
+    }
+}
+
+// K.
+pub fn taken(d: Device, m: Measure) -> Measure
+    ensures { λ r. ⌜ r ≡ takenOf d m ⌝ }
+{
+    let k = interrupts::requester_of(d);
+    if 5 <= k {
+        return m;
+    }
+    let w = waits::counted(m.clocks, m.waits[k]);
+    let mut r = m;
+    r.waits[k] = w;
+    r
+}
