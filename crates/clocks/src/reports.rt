@@ -22,7 +22,7 @@ fn add(n: u32, t: bool) -> u32
 }
 
 // The report so far, with that of a step.
-pub fn reported(r: Report, s: Stepped) -> Ran
+pub(crate) fn reported(r: Report, s: Stepped) -> Ran
     requires { ⌜ Room 1 r ⌝ }
     ensures { λ o. ⌜ o ≡ reportedOf r s ⌝ }
 {
@@ -38,7 +38,7 @@ pub fn reported(r: Report, s: Stepped) -> Ran
     }
 }
 
-pub fn same(r: Report, s: Report) -> bool
+pub(crate) fn same(r: Report, s: Report) -> bool
     ensures { λ o. ⌜ (o ≡ true → r ≡ s) ⌝ }
 {
     let n = r.terminals;
@@ -54,7 +54,7 @@ fn repeated(q: u32, was: u32, is: u32) -> u32
     is + q * (is - was)
 }
 
-pub fn after_rounds(q: u32, was: Report, is: Report) -> Report
+pub(crate) fn after_rounds(q: u32, was: Report, is: Report) -> Report
     requires { ⌜ Repeats q was is ⌝ }
     ensures { λ r. ⌜ r ≡ reportAfter q was is ⌝ }
 {

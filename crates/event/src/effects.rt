@@ -11,14 +11,14 @@ use rules::Event;
 use rules::Port;
 use rules::Report;
 
-pub fn no_report() -> Report
+pub(crate) fn no_report() -> Report
     ensures { λ r. ⌜ r ≡ noReport ⌝ }
 {
     Report { terminals: [0; 3] }
 }
 
 // With nothing to report.
-pub fn effect(d: Device, v: u8) -> Effect
+pub(crate) fn effect(d: Device, v: u8) -> Effect
     ensures { λ r. ⌜ r ≡ plain d v ⌝ }
 {
     let none = no_report();
@@ -105,7 +105,7 @@ fn iei_effect(d: Device, v: u32) -> Effect
 }
 
 // What an accepted event does.
-pub fn effect_of(d: Device, e: Event) -> Effect
+pub(crate) fn effect_of(d: Device, e: Event) -> Effect
     requires { ⌜ codeOf d e ≡ 0 ⌝ }
     ensures { λ r. ⌜ r ≡ effectOf d e ⌝ }
 {

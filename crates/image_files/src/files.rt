@@ -37,7 +37,7 @@ fn why(error: i32) -> usize {
 }
 
 // What the call before this one failed at.
-pub fn trouble(report: i32, path: &[u8], writing: bool) {
+pub(crate) fn trouble(report: i32, path: &[u8], writing: bool) {
     let error = os::errno();
     say(report, path, phrases::trouble_line(writing, why(error)));
 }
@@ -148,7 +148,7 @@ fn made_and_gone(name: &mut [u8], path: &[u8], report: i32) -> bool {
 }
 
 // Whether a file can be made beside this one; it is taken away again.
-pub fn can_keep(path: &[u8], report: i32) -> bool {
+pub(crate) fn can_keep(path: &[u8], report: i32) -> bool {
     let mut name = io::buffer();
     let n = beside(path, &mut name);
     made_and_gone(&mut name[..n], path, report)

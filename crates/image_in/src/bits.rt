@@ -5,7 +5,7 @@ ghost use Rattle.basics.specs.Byte.{bit};
 ghost use Rattle.bodies.specs.Taken.{byteAt};
 
 // Dk of the byte at a place.
-pub fn bit_at(b: &[u8], place: usize, k: u8) -> bool
+pub(crate) fn bit_at(b: &[u8], place: usize, k: u8) -> bool
     requires { ⌜ k < 8 ⌝ }
     ensures { λ r. ⌜ r ≡ bit (byteAt (now (b .entry)) place) k ⌝ }
 {

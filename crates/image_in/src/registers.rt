@@ -92,7 +92,7 @@ fn counter_in(b: &[u8], i: usize) -> Counter
     }
 }
 
-pub fn read_registers(b: &[u8]) -> Device
+pub(crate) fn read_registers(b: &[u8]) -> Device
     ensures { λ r. ⌜ r ≡ registersIn (now (b .entry)) ⌝ }
 {
     Device {

@@ -42,7 +42,7 @@ fn sources_with(s: [Source; 5], b: &[u8]) -> [Source; 5]
     ]
 }
 
-pub fn read_counts(d: Device, b: &[u8]) -> Device
+pub(crate) fn read_counts(d: Device, b: &[u8]) -> Device
     ensures { λ r. ⌜ r ≡ countsIn d (now (b .entry)) ⌝ }
 {
     let s = d.sources;
@@ -90,7 +90,7 @@ fn hidden_with(s: [Source; 5], b: &[u8]) -> [Source; 5]
     ]
 }
 
-pub fn read_pins(d: Device, b: &[u8]) -> Device
+pub(crate) fn read_pins(d: Device, b: &[u8]) -> Device
     ensures { λ r. ⌜ r ≡ pinsIn d (now (b .entry)) ⌝ }
 {
     let q = d.ports;
@@ -102,7 +102,7 @@ pub fn read_pins(d: Device, b: &[u8]) -> Device
     }
 }
 
-pub fn read_lines(d: Device, b: &[u8]) -> Device
+pub(crate) fn read_lines(d: Device, b: &[u8]) -> Device
     ensures { λ r. ⌜ r ≡ linesIn d (now (b .entry)) ⌝ }
 {
     Device {

@@ -17,7 +17,7 @@ fn counter_clear(b: &[u8], i: usize) -> bool
     !bit_at(b, i, 1)
 }
 
-pub fn registers_clear(b: &[u8]) -> bool
+pub(crate) fn registers_clear(b: &[u8]) -> bool
     ensures { λ r. ⌜ r ≡ registersClear (now (b .entry)) ⌝ }
 {
     port_clear(b, 0x08)
@@ -28,19 +28,19 @@ pub fn registers_clear(b: &[u8]) -> bool
         & (basics::byte_at(b, 0x1F) == 0)
 }
 
-pub fn counts_clear(b: &[u8]) -> bool
+pub(crate) fn counts_clear(b: &[u8]) -> bool
     ensures { λ r. ⌜ r ≡ countsClear (now (b .entry)) ⌝ }
 {
     (basics::byte_at(b, 2) < 4) & (basics::byte_at(b, 5) < 4) & (basics::byte_at(b, 8) < 4)
 }
 
-pub fn pins_clear(b: &[u8]) -> bool
+pub(crate) fn pins_clear(b: &[u8]) -> bool
     ensures { λ r. ⌜ r ≡ pinsClear (now (b .entry)) ⌝ }
 {
     basics::byte_at(b, 6) < 4
 }
 
-pub fn lines_clear(b: &[u8]) -> bool
+pub(crate) fn lines_clear(b: &[u8]) -> bool
     ensures { λ r. ⌜ r ≡ linesClear (now (b .entry)) ⌝ }
 {
     (basics::byte_at(b, 0) < 2) & (basics::byte_at(b, 1) < 2)

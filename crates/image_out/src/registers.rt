@@ -108,7 +108,7 @@ fn back(d: Device) -> [u8; 16]
     ]
 }
 
-pub fn registers(d: Device) -> [u8; Device::REGISTERS]
+pub(crate) fn registers(d: Device) -> [u8; Device::REGISTERS]
     ensures { λ r. ⌜ r ≡ registersBody d ⌝ }
 {
     let mut r = [0; Device::REGISTERS];

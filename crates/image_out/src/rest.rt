@@ -13,7 +13,7 @@ fn flags(d0: bool, d1: bool) -> u8
 }
 
 // Per counter: the count, high first, then its half and its hidden error.
-pub fn counts(d: Device) -> [u8; 9]
+pub(crate) fn counts(d: Device) -> [u8; 9]
     ensures { λ r. ⌜ r ≡ countsBody d ⌝ }
 {
     let a = d.counters[0];
@@ -36,7 +36,7 @@ pub fn counts(d: Device) -> [u8; 9]
 }
 
 // Outside levels, catchers, hidden errors.
-pub fn pins(d: Device) -> [u8; 7]
+pub(crate) fn pins(d: Device) -> [u8; 7]
     ensures { λ r. ⌜ r ≡ pinsBody d ⌝ }
 {
     let a = d.ports[0];
@@ -56,7 +56,7 @@ pub fn pins(d: Device) -> [u8; 7]
 }
 
 // IEI and the phase.
-pub fn lines(d: Device) -> [u8; 2]
+pub(crate) fn lines(d: Device) -> [u8; 2]
     ensures { λ r. ⌜ r ≡ linesBody d ⌝ }
 {
     [basics::weight(d.iei, 1), basics::weight(d.phase, 1)]

@@ -38,7 +38,7 @@ fn halved(k: usize, s: Search) -> Search
 }
 
 // Of n clocks, the one at which IP of source k rises.
-pub fn rise(k: usize, d: Device, n: u32) -> u32
+pub(crate) fn rise(k: usize, d: Device, n: u32) -> u32
     requires { ⌜ (k < 5) × (0 < n) × (ipAfter k d 0 ≡ false) × (ipAfter k d n ≡ true) ⌝ }
     ensures { λ r. ⌜ Rises k d n r ⌝ }
 {

@@ -33,7 +33,7 @@ fn stepped_at(k: usize, cleared: bool, d: Device, f: Device, m: Measure) -> Wait
 }
 
 // A step, or what is no clock and no K, from d to f.
-pub fn stepped(e: Event, d: Device, f: Device, m: Measure) -> Measure
+pub(crate) fn stepped(e: Event, d: Device, f: Device, m: Measure) -> Measure
     ensures { λ r. ⌜ r ≡ steppedOf (clearsOf e) d f m ⌝ }
 {
     Measure {
@@ -65,7 +65,7 @@ fn over(k: usize, n: u32, d: Device, f: Device, m: Measure) -> Wait
 }
 
 // T n, from d to f.
-pub fn ticked(n: u32, d: Device, f: Device, m: Measure) -> Measure
+pub(crate) fn ticked(n: u32, d: Device, f: Device, m: Measure) -> Measure
     requires { ⌜ (f ≡ ranOf n d .device) × (m .clocks + n ≤ mostClocks) ⌝ }
     ensures { λ r. ⌜ r ≡ tickedOf n d m ⌝ }
 {
@@ -85,7 +85,7 @@ pub fn ticked(n: u32, d: Device, f: Device, m: Measure) -> Measure
 }
 
 // K.
-pub fn taken(d: Device, m: Measure) -> Measure
+pub(crate) fn taken(d: Device, m: Measure) -> Measure
     ensures { λ r. ⌜ r ≡ takenOf d m ⌝ }
 {
     let k = interrupts::requester_of(d);

@@ -4,7 +4,7 @@ ghost use Prim.Native.Nat.{_-_};
 ghost use Rattle.measure.specs.Wait.{begun as begunOf, dropped as droppedOf, moved as movedOf, leastWith, greatestWith, added as addedOf, counted as countedOf};
 use crate::Wait;
 
-pub fn begun(now: u32, w: Wait) -> Wait
+pub(crate) fn begun(now: u32, w: Wait) -> Wait
     ensures { λ r. ⌜ r ≡ begunOf now w ⌝ }
 {
     let mut r = w;
@@ -13,7 +13,7 @@ pub fn begun(now: u32, w: Wait) -> Wait
     r
 }
 
-pub fn dropped(w: Wait) -> Wait
+pub(crate) fn dropped(w: Wait) -> Wait
     ensures { λ r. ⌜ r ≡ droppedOf w ⌝ }
 {
     let mut r = w;
@@ -23,7 +23,7 @@ pub fn dropped(w: Wait) -> Wait
 }
 
 // A step: IP before and after it, whether it cleared IP in between, and the trace's clocks.
-pub fn moved(was: bool, cleared: bool, is: bool, now: u32, w: Wait) -> Wait
+pub(crate) fn moved(was: bool, cleared: bool, is: bool, now: u32, w: Wait) -> Wait
     ensures { λ r. ⌜ r ≡ movedOf was cleared is now w ⌝ }
 {
     if is & (!was | cleared) {
@@ -80,7 +80,7 @@ fn added(n: u64, w: Wait) -> Wait
 }
 
 // An acknowledge.
-pub fn counted(now: u32, w: Wait) -> Wait
+pub(crate) fn counted(now: u32, w: Wait) -> Wait
     ensures { λ r. ⌜ r ≡ countedOf now w ⌝ }
 {
     if w.waiting {

@@ -3,26 +3,26 @@ ghost use mathlib.Core.Path.{_≡_};
 ghost use Rattle.rules.specs.Registers.{laterPortMode, laterConfig, laterCounterMode, later};
 use rules::Device;
 
-pub fn later_port_mode(b: u32) -> bool
+pub(crate) fn later_port_mode(b: u32) -> bool
     ensures { λ r. ⌜ r ≡ laterPortMode b ⌝ }
 {
     !(b / 64 == 0) | (b / 2 % 4 == 3) | (b % 2 == 1)
 }
 
-pub fn later_config(b: u32) -> bool
+pub(crate) fn later_config(b: u32) -> bool
     ensures { λ r. ⌜ r ≡ laterConfig b ⌝ }
 {
     b / 8 % 2 == 1
 }
 
-pub fn later_counter_mode(b: u32) -> bool
+pub(crate) fn later_counter_mode(b: u32) -> bool
     ensures { λ r. ⌜ r ≡ laterCounterMode b ⌝ }
 {
     b % 4 == 3
 }
 
 // Whether the byte b is a setting left to later requests at the address a of the device.
-pub fn later(d: Device, a: u32, b: u32) -> bool
+pub(crate) fn later(d: Device, a: u32, b: u32) -> bool
     ensures { λ r. ⌜ r ≡ later d a b ⌝ }
 {
     let port_mode = later_port_mode(b);

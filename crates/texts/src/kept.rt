@@ -30,7 +30,7 @@ pub fn push(t: Text, b: u8) -> Text
 }
 
 // How many bytes are kept: none of a line that has no room.
-pub fn kept_len(t: Text) -> usize
+pub(crate) fn kept_len(t: Text) -> usize
     ensures { λ r. ⌜ (r ≡ keptLen t) × (r ≤ textRoom) ⌝ }
 {
     if ROOM < t.len {

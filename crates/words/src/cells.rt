@@ -14,7 +14,7 @@ use texts::glyph;
 use texts::push;
 
 // Dk of a byte.
-pub fn bit(x: u8, k: u8) -> bool
+pub(crate) fn bit(x: u8, k: u8) -> bool
     requires { ⌜ k < 8 ⌝ }
     ensures { λ r. ⌜ r ≡ bitOf x k ⌝ }
 {
@@ -22,7 +22,7 @@ pub fn bit(x: u8, k: u8) -> bool
 }
 
 // The label at a row's place in a table, on a new line; beyond the table none.
-pub fn label(rows: &[[u8; 16]], row: usize) -> Text
+pub(crate) fn label(rows: &[[u8; 16]], row: usize) -> Text
     ensures { λ r. ⌜ r ≡ typed noText (getD (now (rows .entry)) row []) ⌝ }
 {
     let t = texts::no_text();
@@ -33,7 +33,7 @@ pub fn label(rows: &[[u8; 16]], row: usize) -> Text
 }
 
 // A name and its bit.
-pub fn named(t: Text, w: &[u8], f: bool) -> Text
+pub(crate) fn named(t: Text, w: &[u8], f: bool) -> Text
     ensures { λ r. ⌜ r ≡ typed t (namedOf (now (w .entry)) f) ⌝ }
 {
     let u = word(t, w);
@@ -44,7 +44,7 @@ pub fn named(t: Text, w: &[u8], f: bool) -> Text
 }
 
 // One of two words.
-pub fn either(t: Text, f: bool, yes: &[u8; 12], no: &[u8; 12]) -> Text
+pub(crate) fn either(t: Text, f: bool, yes: &[u8; 12], no: &[u8; 12]) -> Text
     ensures { λ r. ⌜ r ≡ typed t (cond f (now (yes .entry)) (now (no .entry))) ⌝ }
 {
     if f {
@@ -53,19 +53,19 @@ pub fn either(t: Text, f: bool, yes: &[u8; 12], no: &[u8; 12]) -> Text
     word(t, no)
 }
 
-pub fn bit_cell(t: Text, f: bool) -> Text
+pub(crate) fn bit_cell(t: Text, f: bool) -> Text
     ensures { λ r. ⌜ r ≡ typed t (bitCell f) ⌝ }
 {
     either(t, f, b"           1", b"           0")
 }
 
-pub fn yes_cell(t: Text, f: bool) -> Text
+pub(crate) fn yes_cell(t: Text, f: bool) -> Text
     ensures { λ r. ⌜ r ≡ typed t (yesCell f) ⌝ }
 {
     either(t, f, b"         yes", b"          no")
 }
 
-pub fn byte_cell(t: Text, n: u8) -> Text
+pub(crate) fn byte_cell(t: Text, n: u8) -> Text
     ensures { λ r. ⌜ r ≡ typed t (byteCell n) ⌝ }
 {
     let u = word(t, b"          ");
@@ -83,7 +83,7 @@ fn digit(p: u32, n: u32) -> u8
     b'0' + (n / p % 10) as u8
 }
 
-pub fn number_cell(t: Text, n: u32) -> Text
+pub(crate) fn number_cell(t: Text, n: u32) -> Text
     ensures { λ r. ⌜ r ≡ typed t (numberCell n) ⌝ }
 {
     let t4 = push(word(t, b"       "), digit(10000, n));

@@ -114,7 +114,7 @@ fn counter_column(t: Text, d: Device, i: usize, row: usize) -> Text
     counter_cell(t, levels::counter_on(d.config, i), c, row)
 }
 
-pub fn counter_line(d: Device, row: usize) -> Text
+pub(crate) fn counter_line(d: Device, row: usize) -> Text
     ensures { λ r. ⌜ r ≡ typed noText (counterLine d row) ⌝ }
 {
     let t = label(&LABELS, row);

@@ -27,7 +27,7 @@ const RJA: u8 = 1;
 
 const RESET: u8 = 0;
 
-pub fn master_line(m: u8) -> Text
+pub(crate) fn master_line(m: u8) -> Text
     ensures { λ r. ⌜ r ≡ typed noText (masterLine m) ⌝ }
 {
     let mie = named(texts::no_text(), b"master          MIE ", bit(m, MIE));
@@ -41,7 +41,7 @@ pub fn master_line(m: u8) -> Text
 }
 
 // What LC makes of CT1's output.
-pub fn link_line(lc: u8) -> Text
+pub(crate) fn link_line(lc: u8) -> Text
     ensures { λ r. ⌜ r ≡ typed noText (linkLine lc) ⌝ }
 {
     let t = texts::no_text();
@@ -53,7 +53,7 @@ pub fn link_line(lc: u8) -> Text
     }
 }
 
-pub fn levels_line(d: Device) -> Text
+pub(crate) fn levels_line(d: Device) -> Text
     ensures { λ r. ⌜ r ≡ typed noText (levelsLine d) ⌝ }
 {
     let int = interrupts::int(d);
@@ -65,7 +65,7 @@ pub fn levels_line(d: Device) -> Text
 }
 
 // Who requests: a place in the order of the sources, or 5.
-pub fn request_line(k: usize) -> Text
+pub(crate) fn request_line(k: usize) -> Text
     ensures { λ r. ⌜ r ≡ typed noText (requestLine k) ⌝ }
 {
     let t = texts::no_text();
@@ -79,7 +79,7 @@ pub fn request_line(k: usize) -> Text
     }
 }
 
-pub fn acknowledge_line(d: Device) -> Text
+pub(crate) fn acknowledge_line(d: Device) -> Text
     ensures { λ r. ⌜ r ≡ typed noText (acknowledgeLine d) ⌝ }
 {
     let t = word(texts::no_text(), b"K would give    ");

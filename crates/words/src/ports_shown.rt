@@ -44,7 +44,7 @@ fn port_cell(t: Text, d: Device, p: usize, row: usize) -> Text
     }
 }
 
-pub fn port_line(d: Device, row: usize) -> Text
+pub(crate) fn port_line(d: Device, row: usize) -> Text
     ensures { λ r. ⌜ r ≡ typed noText (portLine d row) ⌝ }
 {
     let t = label(&PORT_LABELS, row);
@@ -83,7 +83,7 @@ fn pattern_cell(t: Text, q: Pattern, row: usize) -> Text
     }
 }
 
-pub fn pattern_line(d: Device, row: usize) -> Text
+pub(crate) fn pattern_line(d: Device, row: usize) -> Text
     ensures { λ r. ⌜ r ≡ typed noText (patternLine d row) ⌝ }
 {
     let qa = d.patterns[0];

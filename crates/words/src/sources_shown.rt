@@ -31,7 +31,7 @@ fn source_cell(t: Text, s: Source, row: usize) -> Text
     bit_cell(t, false)
 }
 
-pub fn source_line(d: Device, row: usize) -> Text
+pub(crate) fn source_line(d: Device, row: usize) -> Text
     ensures { λ r. ⌜ r ≡ typed noText (sourceLine d row) ⌝ }
 {
     let s0 = d.sources[0];
