@@ -268,7 +268,10 @@ pub fn run(n: u32, d: Device) -> Ran
 {
     let start = Ran {
         device: d,
-        report: Report { terminals: [0; 3] },
+        report: Report {
+            terminals: [0; 3],
+            lost: [0; 3],
+        },
     };
     let mut c = Chase {
         ran: start,

@@ -14,7 +14,10 @@ use rules::Report;
 pub(crate) fn no_report() -> Report
     ensures { λ r. ⌜ r ≡ noReport ⌝ }
 {
-    Report { terminals: [0; 3] }
+    Report {
+        terminals: [0; 3],
+        lost: [0; 3],
+    }
 }
 
 // With nothing to report.

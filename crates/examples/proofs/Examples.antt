@@ -1,18 +1,18 @@
--- The examples of paper 01 from the definitions, by a single claim over a list.
+-- The examples from the definitions, by a single claim over a list.
 -- Assumes nothing.
 use mathlib.Core.Path.{refl}
 use mathlib.Core.List.{[], _∷_}
 use Rattle.examples.specs.Claim.{answeredFrom, answersEach, expected, Right}
-use Rattle.examples.specs.Examples.{p1, p2, p3, p4, p5, p6, p7, p8, p9, p10}
+use Rattle.examples.specs.Examples.{p1, p2, p3, p4, p5, p6, p7, p8, p9, p10, w202}
 use Rattle.basics.specs.Byte.{byteOf, every, any, byteIn, withByte}
 use Rattle.rules.specs.Record.{resetOf}
-use Rattle.rules.specs.Report.{sums, reportsAdded}
+use Rattle.rules.specs.Report.{sums, nums, reportsAdded}
 use Rattle.rules.specs.Registers.{portKind, kindIn, kindOf, vis, portEnabled, counterOn, kept, readOnly, laterPortMode, laterConfig, laterCounterMode, later, ipCleared, commanded, statusOf}
 use Rattle.rules.specs.Counters.{takes, loaded, terminalOf, countOf, outputOf, linkOf, reachOf, counts, turnOf, frozenBy, triggeredBy, commandedBy, thawed, shown, enabledBy}
 use Rattle.rules.specs.PortData.{pinBit, pathBit, catches, caughtBit, seenBit, pinsOf, pathOf, catchesAt, caughtOf, seenOf, levelOf}
 use Rattle.rules.specs.PortData.{standing, valueAt, pinsAt, pathAt, seenAt, dataAt, outputBit, clearedBit, putOf, unprotected, writtenData}
 use Rattle.rules.specs.Patterns.{onBit, hitBit, onAt, hitAt, andMatch, orMatch, matchOf}
-use Rattle.rules.specs.Interrupts.{raisedOf, firstOf, first, served, pending, requests, requester, intOf, ieoOf, vectorOf, counterStatus}
+use Rattle.rules.specs.Interrupts.{fateOf, afterFate, came, wasLost, firstOf, first, served, pending, requests, requester, intOf, ieoOf, vectorOf, counterStatus}
 use Rattle.rules.specs.Interrupts.{portStatus, withStatus, vectorFor, acknowledged, acknowledge, pendingCounter, vectorRead, currentVector}
 use Rattle.rules.specs.Step.{linesAt, eventAt, turned, counterTurn, caughtAt, catchers, matchedBy, patternTurn, settled, stepOf, reported, clockOf, ranOf}
 use Rattle.basics.specs.Iterate.{iterate}
@@ -23,14 +23,14 @@ use Rattle.rules.specs.Sound.{sameCounters, samePorts, samePatterns, sameVector
 use Rattle.rules.specs.Events.{unknown, noRegister, tooLarge, held, codeOf, writeEffect, readEffect, outsideSet, pinsEffect, clocksEffect}
 use Rattle.rules.specs.Events.{acknowledgeEffect, ieiEffect, effectOf, answerOf, outcomeOf, eventOf}
 
--- P1 to P10. Each is computed, with every definition of `rules` open.
-pub examples : Right (p1 ∷ p2 ∷ p3 ∷ p4 ∷ p5 ∷ p6 ∷ p7 ∷ p8 ∷ p9 ∷ p10 ∷ [])
+-- P1 to P10, and that of W-202. Each is computed, with every definition of `rules` open.
+pub examples : Right (p1 ∷ p2 ∷ p3 ∷ p4 ∷ p5 ∷ p6 ∷ p7 ∷ p8 ∷ p9 ∷ p10 ∷ w202 ∷ [])
 unfolding answeredFrom answersEach expected byteOf every any byteIn withByte resetOf portKind kindIn kindOf vis
     portEnabled counterOn kept readOnly laterPortMode laterConfig laterCounterMode later ipCleared commanded statusOf
     takes loaded terminalOf countOf outputOf linkOf reachOf counts turnOf frozenBy triggeredBy commandedBy thawed
     shown enabledBy pinBit pathBit catches caughtBit seenBit pinsOf pathOf catchesAt caughtOf seenOf levelOf standing
     valueAt pinsAt pathAt seenAt dataAt outputBit clearedBit putOf unprotected writtenData onBit hitBit onAt hitAt
-    andMatch orMatch matchOf raisedOf firstOf first served pending requests requester intOf ieoOf vectorOf
+    andMatch orMatch matchOf fateOf afterFate came wasLost firstOf first served pending requests requester intOf ieoOf vectorOf
     counterStatus portStatus withStatus vectorFor acknowledged acknowledge pendingCounter vectorRead currentVector
     linesAt eventAt turned counterTurn caughtAt catchers matchedBy patternTurn settled stepOf reported clockOf iterate
     ranOf portCommand counterCommand readOf afterRead masterWritten configWritten portCommanded counterCommanded
@@ -38,5 +38,5 @@ unfolding answeredFrom answersEach expected byteOf every any byteIn withByte res
     catcherSet soundPort pmfOnly sameSource sameCounter samePort samePattern sameSources sameCounters samePorts
     samePatterns sameVectors sameOf resetOnly soundSources soundCounters soundPortAt soundPorts soundPatterns soundOf
     unknown noRegister tooLarge held codeOf writeEffect readEffect outsideSet pinsEffect clocksEffect acknowledgeEffect ieiEffect
-    effectOf answerOf outcomeOf eventOf sums reportsAdded
-examples = (refl, (refl, (refl, (refl, (refl, (refl, (refl, (refl, (refl, (refl, tt))))))))))
+    effectOf answerOf outcomeOf eventOf sums nums reportsAdded
+examples = (refl, (refl, (refl, (refl, (refl, (refl, (refl, (refl, (refl, (refl, (refl, tt)))))))))))

@@ -1,4 +1,4 @@
--- What an example of paper 01 claims: events from the fresh device, each with its whole answer.
+-- What an example claims: events from the fresh device, each with its whole answer.
 -- Assumes nothing.
 use Prim.Native.Nat.{ℕ}
 use mathlib.Core.Path.{_≡_}
@@ -30,9 +30,9 @@ T n = record { kind = 4; a = n; b = 0; c = 0 }
 abbrev pub K : Event
 K = record { kind = 5; a = 0; b = 0; c = 0 }
 
--- ---- the answers, as the trace program prints them: code, value, A, B, C, INT, IEO and three counts
-abbrev pub says : ℕ → ℕ → ℕ → ℕ → ℕ → ℕ → ℕ → ℕ → ℕ → ℕ → Answer
-says code value a b c int ieo t1 t2 t3 =
+-- ---- the answers, as the trace program prints them: code, value, A, B, C, INT, IEO, three terminal counts and three lost
+abbrev pub says : ℕ → ℕ → ℕ → ℕ → ℕ → ℕ → ℕ → ℕ → ℕ → ℕ → ℕ → ℕ → ℕ → Answer
+says code value a b c int ieo t1 t2 t3 l1 l2 l3 =
     record {
       code = code;
       value = value;
@@ -41,7 +41,7 @@ says code value a b c int ieo t1 t2 t3 =
       c = c;
       int = eqb int 1;
       ieo = eqb ieo 1;
-      report = record { terminals = t1 ∷ t2 ∷ t3 ∷ [] };
+      report = record { terminals = t1 ∷ t2 ∷ t3 ∷ []; lost = l1 ∷ l2 ∷ l3 ∷ [] };
     }
 
 -- ---- a claim
@@ -53,12 +53,12 @@ pub record Line : Type 0 where
 abbrev pub line : Event → Answer → Line
 line e a = record { event = e; answer = a }
 
--- accepted, with pins at 0, no interrupt and no terminal: `0 00 00 00 0 0 1 0 0 0`; and a read so answered, with its value
+-- accepted, with pins at 0, no interrupt and no terminal: `0 00 00 00 0 0 1 0 0 0 0 0 0`; and a read so answered, with its value
 abbrev pub accepted : Event → Line
-accepted e = line e (says 0 0x00 0x00 0x00 0x0 0 1 0 0 0)
+accepted e = line e (says 0 0x00 0x00 0x00 0x0 0 1 0 0 0 0 0 0)
 
 abbrev pub reads : ℕ → ℕ → Line
-reads address value = line (R address) (says 0 value 0x00 0x00 0x0 0 1 0 0 0)
+reads address value = line (R address) (says 0 value 0x00 0x00 0x0 0 1 0 0 0 0 0 0)
 
 -- the answers to the events of a claim, each in the record that the one before it left
 unfoldable pub answeredFrom : Outcome → List Line → List Answer

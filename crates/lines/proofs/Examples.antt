@@ -7,7 +7,7 @@ use mathlib.Core.List.{List, [], _∷_}
 use Rattle.rules.specs.Report.{noReport}
 use Rattle.lines.specs.declared.Line.{Line}
 use Rattle.lines.specs.declared.Line.the-variants.{Unreadable}
-use Rattle.texts.specs.Answers.{glyphOf, hexText, nibbleText, flagText, placeText, decimalText, countText, reportText, answerText}
+use Rattle.texts.specs.Answers.{glyphOf, hexText, nibbleText, flagText, placeText, decimalText, countText, countsText, reportText, answerText}
 use Rattle.texts.specs.Spelled.{spelled}
 use Rattle.lines.specs.Lines.{
   said,
@@ -53,8 +53,8 @@ pub read : Read readings
 unfolding lineOf wordsOf clocksOf noLeadingZeros clocksIn valueOf allDecimal saidBy numbersOf numberOf digitOf spelled
 read = (refl, (refl, (refl, (refl, (refl, (refl, (refl, (refl, (refl, (refl, (refl, (refl, tt))))))))))))
 
--- the answer to K in the worked example
+-- the answer to K in the worked example, with the lost counts of paper 02, W-202
 pub written : answerText (record { code = 0; value = 0xA4; a = 0; b = 0; c = 0; int = false; ieo = false; report = noReport })
-    ≡ spelled "0 A4 00 00 0 0 0 0 0 0\n"
-unfolding answerText reportText countText decimalText placeText flagText nibbleText hexText glyphOf spelled
+    ≡ spelled "0 A4 00 00 0 0 0 0 0 0 0 0 0\n"
+unfolding answerText reportText countsText countText decimalText placeText flagText nibbleText hexText glyphOf spelled
 written = refl

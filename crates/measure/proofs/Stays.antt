@@ -2,25 +2,18 @@
 -- Assumes nothing.
 use Prim.Native.Nat.{ℕ}
 use mathlib.Core.Path.{_≡_, refl}
-use mathlib.Core.Bool.{Bool, true, false, not, _&&_, cond}
-use Rattle.basics.proofs.Tests.{by-test}
+use mathlib.Core.Bool.{Bool, true, false}
 use Rattle.basics.proofs.Places.{set-keeps}
 use Rattle.rules.specs.declared.Source.{Source}
 use Rattle.rules.specs.declared.Device.{Device}
 use Rattle.rules.specs.declared.Link.{Link}
 use Rattle.rules.specs.declared.Ran.{Ran}
-use Rattle.rules.specs.Record.{quiet, sourceAt}
-use Rattle.rules.specs.With.{withIp, withHidden, withPhase}
+use Rattle.rules.specs.Record.{quiet, sourceAt, ofCounter}
+use Rattle.rules.specs.With.{withIp, withHidden, withCounter, withPhase}
 use Rattle.rules.specs.Registers.{reset}
-use Rattle.rules.specs.Interrupts.{raisedOf}
 use Rattle.rules.specs.Step.{eventAt, turned, counterTurn, catchers, matchedBy, patternTurn, settled, stepOf, reported, clockOf}
+use Rattle.theorems.proofs.Fates.{by-fate}
 use Rattle.theorems.proofs.Reports.{clock-held, clock-first, clock-timer}
-
-raised-ip : (hides : Bool) (s : Source) → raisedOf hides s .ip ≡ true
-unfolding raisedOf
-raised-ip hides s =
-    by-test (λ (t : Source). t .ip ≡ true) (s .ip) (cond (hides && not (s .err)) (withHidden s true) s) (withIp s true)
-    (λ p. by-test (λ (t : Source). t .ip ≡ true) (hides && not (s .err)) (withHidden s true) s (λ _. p) (λ _. p)) (λ _. refl)
 
 module _ (k : ℕ) where
   -- IP of source k stands
@@ -28,14 +21,15 @@ module _ (k : ℕ) where
   Stands d = sourceAt d k .ip ≡ true
 
   stays-event : (d : Device) (j : ℕ) (hides happens : Bool) → Stands d → Stands (eventAt d j hides happens)
-  unfolding eventAt
-  stays-event d j hides true h =
-      set-keeps (λ _ (s : Source). s .ip ≡ true) (d .sources) j k (raisedOf hides (sourceAt d j)) quiet (λ _. raised-ip hides (sourceAt d j)) h
-  stays-event d j hides false h = h
+  stays-event d j hides happens h =
+      let ip : ℕ → Source → Type 0 = λ _ s. s .ip ≡ true in
+      by-fate Stands d j hides happens h
+      (λ _. set-keeps ip (d .sources) j k (withIp (sourceAt d j) true) quiet (λ _. refl) h)
+      (λ _ _. set-keeps ip (d .sources) j k (withHidden (sourceAt d j) true) quiet (λ p. p) h)
 
   stays-turn : (link : Link) (timer : Bool) (were are i : ℕ) (d : Device) → Stands d → Stands (counterTurn link timer were are i d .device)
-  unfolding counterTurn turned
-  stays-turn link timer were are i d h = stays-event _ _ _ _ h
+  unfolding counterTurn turned eventAt
+  stays-turn link timer were are i d h = stays-event (withCounter d i _) (ofCounter i) true _ h
 
   stays-pattern : (p before : ℕ) (d : Device) → Stands d → Stands (patternTurn p before d)
   unfolding patternTurn matchedBy

@@ -22,7 +22,7 @@ use Rattle.registers.specs.Place.{place}
 use Rattle.rules.specs.Access.{afterRead, readOf, writtenOf}
 use Rattle.rules.specs.Counters.{commandedBy, counts, outputOf, reachOf, turnOf}
 use Rattle.rules.specs.Events.{codeOf, eventOf}
-use Rattle.rules.specs.Interrupts.{acknowledge, acknowledged, currentVector, ieoOf, intOf, raisedOf, requester, vectorRead}
+use Rattle.rules.specs.Interrupts.{acknowledge, acknowledged, currentVector, fateOf, ieoOf, intOf, requester, vectorRead}
 use Rattle.rules.specs.Patterns.{onAt}
 use Rattle.rules.specs.PortData.{catchesAt, dataAt, pathAt, pinsAt, seenAt}
 use Rattle.rules.specs.Record.{freshOf, imageLen, ofCounter, ofPort, registerCount, resetOf}
@@ -104,7 +104,7 @@ use Rattle.read_access.proofs.after_read as read-access·after-read
 use Rattle.sources.proofs.command as sources·command
 use Rattle.sources.proofs.port_command as sources·port-command
 use Rattle.sources.proofs.counter_command as sources·counter-command
-use Rattle.sources.proofs.raise as sources·raise
+use Rattle.sources.proofs.fate as sources·fate
 use Rattle.step.proofs.step as step·step
 use Rattle.texts.proofs.glyph as texts·glyph
 use Rattle.texts.proofs.decimal as texts·decimal
@@ -346,8 +346,8 @@ module _ {M : Type 1} (𝓤 : URA M) where
       one-result 𝓤 sources·counter-command.ended (sources·counter-command.clauses 𝓤)
       (λ κs a. counterCommandOf (a .0) (a .1 .0)) refl
 
-  pub sources-raise : OneResult 𝓤 sources·raise.ended (sources·raise.clauses 𝓤)
-  sources-raise = one-result 𝓤 sources·raise.ended (sources·raise.clauses 𝓤) (λ κs a. raisedOf (a .0) (a .1 .0)) refl
+  pub sources-fate : OneResult 𝓤 sources·fate.ended (sources·fate.clauses 𝓤)
+  sources-fate = one-result 𝓤 sources·fate.ended (sources·fate.clauses 𝓤) (λ κs a. fateOf (a .0) (a .1 .0) (a .1 .1 .0)) refl
 
   pub step-step : OneResult 𝓤 step·step.ended (step·step.clauses 𝓤)
   step-step = one-result 𝓤 step·step.ended (step·step.clauses 𝓤) (λ κs a. stepOf (a .0) (a .1 .0) (a .1 .1 .0)) refl

@@ -117,7 +117,7 @@ effectOf d e =
 
 -- ---- the answer
 -- "An answer is: code, value (a byte), pin levels A, B, C, INT (1 = asserted), IEO (1 = High), and terminal counts of
--- counters 1, 2, 3 (0 but for T). Lines are those after the event."
+-- counters 1, 2, 3 (0 but for T). Lines are those after the event." Paper 02, W-202: "T answers three more numbers".
 unfoldable pub answerOf : ℕ → Effect → Answer
 answerOf code r =
     record {

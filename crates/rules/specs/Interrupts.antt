@@ -5,6 +5,8 @@ use mathlib.Core.Bool.{Bool, true, false, not, _&&_, _||_, cond}
 use lib.Dec.{eqb}
 use Rattle.rules.specs.declared.Device.{Device}
 use Rattle.rules.specs.declared.Source.{Source}
+use Rattle.rules.specs.declared.Fate.{Fate}
+use Rattle.rules.specs.declared.Fate.the-variants.{Nothing, Taken, Kept, Lost}
 use Rattle.basics.specs.Signs.{if_then_else_, _==_}
 use Rattle.basics.specs.Byte.{num}
 use Rattle.rules.specs.With.{withIus, withIp, withHidden, withSource}
@@ -12,9 +14,34 @@ use Rattle.rules.specs.Record.{vectorAt, patternAt, sourceAt, ofPort}
 use Rattle.rules.specs.Registers.{mie, dlc, nv, vis}
 
 -- "An event (terminal or match) with IP = 0 sets IP. With IP = 1 and ERR = 0 it sets a hidden error (ports: only if IOE)."
-unfoldable pub raisedOf : Bool → Source → Source
-raisedOf hides s =
-    if s .ip then (if hides && not (s .err) then withHidden s true else s) else withIp s true
+-- Paper 02, W-202: so a terminal "was taken, kept as the hidden error, or lost": lost where it "came while the hidden error
+-- or ERR was already set".
+unfoldable pub fateOf : Bool → Bool → Source → Fate
+fateOf hides happens s =
+    if not happens then Nothing else
+    if not (s .ip) then Taken else
+    if hides && not (s .err) && not (s .hidden) then Kept else
+    Lost
+
+-- the record after it, of the source k
+unfoldable pub afterFate : Device → ℕ → Fate → Device
+afterFate d k Nothing = d
+afterFate d k Taken = withSource d k (withIp (sourceAt d k) true)
+afterFate d k Kept = withSource d k (withHidden (sourceAt d k) true)
+afterFate d k Lost = d
+
+-- whether the event came, and whether it was lost
+unfoldable pub came : Fate → Bool
+came Nothing = false
+came Taken = true
+came Kept = true
+came Lost = true
+
+unfoldable pub wasLost : Fate → Bool
+wasLost Nothing = false
+wasLost Taken = false
+wasLost Kept = false
+wasLost Lost = true
 
 -- the first of five tests that passes, counted from 0; 5 if none
 unfoldable pub firstOf : Bool → Bool → Bool → Bool → Bool → ℕ

@@ -15,14 +15,14 @@ use Rattle.rules.specs.declared.Ran.{Ran}
 use Rattle.basics.specs.Signs.{if_then_else_, _==_}
 unfoldable pub use Rattle.basics.specs.Iterate.{iterate}
 use Rattle.rules.specs.declared.Report.{Report}
-use Rattle.rules.specs.With.{withCatcher, withPmf, withPorts, withPattern, withCounter, withSource, withPhase}
+use Rattle.rules.specs.With.{withCatcher, withPmf, withPorts, withPattern, withCounter, withPhase}
 use Rattle.rules.specs.Record.{portAt, patternAt, counterAt, sourceAt, ofPort, ofCounter}
 use Rattle.rules.specs.Report.{noReport, reportsAdded, stepReport}
 use Rattle.rules.specs.Registers.{portEnabled, counterEnabled, lc, reset}
 use Rattle.rules.specs.PortData.{caughtOf, pathAt, seenAt}
 use Rattle.rules.specs.Counters.{outputOf, unlinked, linkOf, reachOf, turnOf}
 use Rattle.rules.specs.Patterns.{matchOf}
-use Rattle.rules.specs.Interrupts.{raisedOf}
+use Rattle.rules.specs.Interrupts.{fateOf, afterFate, came, wasLost}
 
 -- "Lines: CT1 output, count, trigger, gate PB4-PB7; CT2 PB0-PB3; CT3 PC0-PC3. Inputs are path values without catchers":
 -- the four lines of counter i, as D0 to D3
@@ -31,15 +31,14 @@ linesAt d i = if i == 0 then pathAt d 1 / 16 else if i == 1 then pathAt d 1 % 16
 
 -- a source to which an event comes, or does not
 unfoldable pub eventAt : Device → ℕ → Bool → Bool → Device
-eventAt d k hides happens = if happens then withSource d k (raisedOf hides (sourceAt d k)) else d
+eventAt d k hides happens = afterFate d k (fateOf hides happens (sourceAt d k))
 
--- what a counter's turn leaves: the counter, and its source after a terminal
+-- what a counter's turn leaves: "One count of one counter now also says whether the terminal was taken, kept as the hidden
+-- error, or lost" (paper 02, W-202), and its source is left by that
 unfoldable pub turned : Device → ℕ → Counted → Turned
 turned d i r =
-    record {
-      device = eventAt (withCounter d i (r .counter)) (ofCounter i) true (r .terminal);
-      terminal = r .terminal;
-    }
+    let f = fateOf true (r .terminal) (sourceAt d (ofCounter i)) in
+    record { device = afterFate (withCounter d i (r .counter)) (ofCounter i) f; fate = f }
 
 -- (b), (c), (d): the turn of counter i in the device d; "edges compare before the step with after (a)"
 unfoldable pub counterTurn : Link → Bool → ℕ → ℕ → ℕ → Device → Turned
@@ -76,7 +75,8 @@ stepOf timer d0 d1 =
     let d = counterTurn unlinked timer (linesAt d0 2) (linesAt d1 2) 2 (c .device) in
     record {
       device = settled (seenAt d0 0) (seenAt d0 1) (d .device);
-      terminals = b .terminal ∷ c .terminal ∷ d .terminal ∷ [];
+      terminals = came (b .fate) ∷ came (c .fate) ∷ came (d .fate) ∷ [];
+      lost = wasLost (b .fate) ∷ wasLost (c .fate) ∷ wasLost (d .fate) ∷ [];
     }
 
 -- ---- the clock

@@ -190,9 +190,10 @@ impl Event {
     pub const E: u32 = 6;
 }
 
-// What an answer reports of its clocks: the terminal counts of counters 1, 2, 3.
+// What an answer reports of its clocks: the terminal counts of counters 1, 2, 3, and how many of them were lost.
 pub struct Report {
     pub terminals: [u32; 3],
+    pub lost: [u32; 3],
 }
 
 // The answer to an event.
@@ -258,16 +259,25 @@ pub struct Reach {
     pub count: bool,
 }
 
-// A device in the middle of a step, after one counter's turn, and whether that was terminal.
-pub struct Turned {
-    pub device: Device,
-    pub terminal: bool,
+// What became of an event (a terminal, a match) at its source: none came, it was taken, kept as the hidden error, or lost.
+pub enum Fate {
+    Nothing,
+    Taken,
+    Kept,
+    Lost,
 }
 
-// A device after a step, and which of the counters 1, 2, 3 were terminal.
+// A device in the middle of a step, after one counter's turn, and what became of its terminal.
+pub struct Turned {
+    pub device: Device,
+    pub fate: Fate,
+}
+
+// A device after a step, which of the counters 1, 2, 3 were terminal, and which terminals were lost.
 pub struct Stepped {
     pub device: Device,
     pub terminals: [bool; 3],
+    pub lost: [bool; 3],
 }
 
 // A device after some clocks, and their report.

@@ -4,8 +4,9 @@ ghost use mathlib.Core.Bool.{true};
 ghost use Prim.Native.Nat.{_≤_};
 ghost use Rattle.rules.specs.Registers.{ipCleared, commanded, statusOf, portCommandOf, counterCommandOf};
 ghost use Rattle.rules.specs.With.{withIus, withIe, withIp};
-ghost use Rattle.rules.specs.Interrupts.{raisedOf};
+ghost use Rattle.rules.specs.Interrupts.{fateOf};
 use rules::Counter;
+use rules::Fate;
 use rules::Pattern;
 use rules::Source;
 
@@ -83,18 +84,18 @@ pub fn counter_command(s: Source, c: Counter) -> u8
     status(s) + (basics::weight(c.rcc, 8) + basics::weight(c.gcb, 4) + basics::weight(c.cip, 1))
 }
 
-// An event comes to a source; `hides` says whether it may set the hidden error.
-pub fn raise(hides: bool, s: Source) -> Source
-    ensures { λ r. ⌜ r ≡ raisedOf hides s ⌝ }
+// What becomes of an event that happens at a source, or does not; `hides` says whether it may set the hidden error.
+pub fn fate(hides: bool, happens: bool, s: Source) -> Fate
+    ensures { λ r. ⌜ r ≡ fateOf hides happens s ⌝ }
 {
-    let mut e = s;
-    if s.ip {
-        if hides & !s.err {
-            e.hidden = true;
-            return e;
-        }
-        return s;
+    if !happens {
+        return Fate::Nothing;
     }
-    e.ip = true;
-    e
+    if !s.ip {
+        return Fate::Taken;
+    }
+    if hides & !s.err & !s.hidden {
+        return Fate::Kept;
+    }
+    Fate::Lost
 }

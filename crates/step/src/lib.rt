@@ -7,40 +7,82 @@ ghost use Rattle.rules.specs.Record.{counterAt};
 ghost use Rattle.rules.specs.Registers.{lc};
 ghost use Rattle.rules.specs.Counters.{outputOf, linkOf};
 ghost use Rattle.rules.specs.PortData.{caughtOf};
+ghost use Rattle.rules.specs.Interrupts.{afterFate, came, wasLost};
 ghost use Rattle.rules.specs.Step.{linesAt, eventAt, turned, counterTurn, catchers, caughtAt, matchedBy, patternTurn, settled, stepOf};
 use rules::Counted;
 use rules::Device;
+use rules::Fate;
 use rules::Link;
 use rules::Port;
 use rules::Source;
 use rules::Stepped;
 use rules::Turned;
 
+// Whether an event came, and whether it was lost.
+fn came(f: Fate) -> bool
+    ensures { λ r. ⌜ r ≡ came f ⌝ }
+{
+    match f {
+        Fate::Nothing => false,
+        Fate::Taken => true,
+        Fate::Kept => true,
+        Fate::Lost => true,
+    }
+}
+
+fn was_lost(f: Fate) -> bool
+    ensures { λ r. ⌜ r ≡ wasLost f ⌝ }
+{
+    match f {
+        Fate::Nothing => false,
+        Fate::Taken => false,
+        Fate::Kept => false,
+        Fate::Lost => true,
+    }
+}
+
+// Source k after what became of its event.
+fn after_fate(d: Device, k: usize, f: Fate) -> Device
+    requires { ⌜ k < 5 ⌝ }
+    ensures { λ r. ⌜ r ≡ afterFate d k f ⌝ }
+{
+    let mut e = d;
+    match f {
+        Fate::Nothing => d,
+        Fate::Taken => {
+            e.sources[k].ip = true;
+            e
+        }
+        Fate::Kept => {
+            e.sources[k].hidden = true;
+            e
+        }
+        Fate::Lost => d,
+    }
+}
+
 // An event comes to source k, or does not.
 fn event_at(d: Device, k: usize, hides: bool, happens: bool) -> Device
     requires { ⌜ k < 5 ⌝ }
     ensures { λ r. ⌜ r ≡ eventAt d k hides happens ⌝ }
 {
-    if happens {
-        let s = sources::raise(hides, d.sources[k]);
-        let mut e = d;
-        e.sources[k] = s;
-        return e;
-    }
-    d
+    let f = sources::fate(hides, happens, d.sources[k]);
+    after_fate(d, k, f)
 }
 
-// Counter i and its source after the counter's turn.
+// Counter i after its turn, what became of its terminal, and its source after that.
 fn turned_by(d: Device, i: usize, r: Counted) -> Turned
     requires { ⌜ i < 3 ⌝ }
     ensures { λ t. ⌜ t ≡ turned d i r ⌝ }
 {
+    let k = Source::of_counter(i);
+    let f = sources::fate(true, r.terminal, d.sources[k]);
     let c = r.counter;
     let mut e = d;
     e.counters[i] = c;
     Turned {
-        device: event_at(e, Source::of_counter(i), true, r.terminal),
-        terminal: r.terminal,
+        device: after_fate(e, k, f),
+        fate: f,
     }
 }
 
@@ -161,12 +203,16 @@ pub fn step(timer: bool, d0: Device, d1: Device) -> Stepped
     };
     let b = counter_turn(unlinked, timer, d0, d1, 0, d1);
     let db = b.device;
+    let fb = b.fate;
     let c = counter_turn(linked(d0, d1, db), timer, d0, d1, 1, db);
     let dc = c.device;
+    let fc = c.fate;
     let d = counter_turn(unlinked, timer, d0, d1, 2, dc);
     let dd = d.device;
+    let fd = d.fate;
     Stepped {
         device: settle(levels::seen_at(d0, 0), levels::seen_at(d0, 1), dd),
-        terminals: [b.terminal, c.terminal, d.terminal],
+        terminals: [came(fb), came(fc), came(fd)],
+        lost: [was_lost(fb), was_lost(fc), was_lost(fd)],
     }
 }

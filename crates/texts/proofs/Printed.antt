@@ -2,14 +2,14 @@
 -- Assumes nothing.
 use Prim.Native.Nat.{ℕ, _/_, _%_, _≤_}
 use mathlib.Core.Bool.{Bool, true, false, cond}
-use mathlib.Core.List.{[], _∷_}
+use mathlib.Core.List.{List, [], _∷_}
 use mathlib.Core.Path.{_≡_}
 use native.Mathlib.Omega.{arith}
 use lib.Dec.{ltb}
 use lib.ListN.{length, getD, length-append}
 use Rattle.rules.specs.declared.Answer.{Answer}
 use Rattle.rules.specs.declared.Report.{Report}
-use Rattle.texts.specs.Answers.{decimalDigit, hexText, nibbleText, flagText, placeText, decimalText, countText, reportText, answerText}
+use Rattle.texts.specs.Answers.{decimalDigit, hexText, nibbleText, flagText, placeText, decimalText, countText, countsText, reportText, answerText}
 use Rattle.texts.specs.Kept.{textRoom, noText, typed, bytesOf}
 use Rattle.texts.proofs.Keeping.{bytes-line}
 
@@ -39,11 +39,14 @@ decimal-short n =
     ))
 
 -- three counts, with a space each
-pub report-short : (r : Report) → length (reportText r) ≤ 33
-unfolding reportText countText
-report-short r =
-    simp length-append
-    (omega (arith, decimal-short (getD (r .terminals) 0 0), decimal-short (getD (r .terminals) 1 0), decimal-short (getD (r .terminals) 2 0)))
+counts-short : (ns : List ℕ) → length (countsText ns) ≤ 33
+unfolding countsText countText
+counts-short ns =
+    simp length-append (omega (arith, decimal-short (getD ns 0 0), decimal-short (getD ns 1 0), decimal-short (getD ns 2 0)))
+
+pub report-short : (r : Report) → length (reportText r) ≤ 66
+unfolding reportText
+report-short r = simp length-append (omega (arith, counts-short (r .terminals), counts-short (r .lost)))
 
 pub answer-short : (a : Answer) → length (answerText a) ≤ textRoom
 unfolding answerText hexText nibbleText flagText

@@ -1,6 +1,7 @@
 -- The bytes of an answer. Paper 01, "The trace program": "Each line prints decimal code, capital hexadecimal value, A, B, C,
 -- then INT, IEO and three decimal counts.", and its worked example: one space between, value, A and B in two digits, C in
--- one, no zeros before a decimal number, and a line feed at the end.
+-- one, no zeros before a decimal number, and a line feed at the end. Paper 02, W-202: "T answers three more numbers, lost
+-- terminals for counters 1 to 3", and "the trace line ends with them".
 -- Assumes nothing.
 use Prim.Native.Char.{code}
 use Prim.Native.Nat.{ℕ, _+_, _-_, _/_, _%_}
@@ -55,8 +56,12 @@ unfoldable pub countText : ℕ → List ℕ
 countText n = space ∷ decimalText n
 
 -- "three decimal counts"
+unfoldable pub countsText : List ℕ → List ℕ
+countsText ns = countText (getD ns 0 0) ++ countText (getD ns 1 0) ++ countText (getD ns 2 0)
+
+-- the terminals, and then the lost
 unfoldable pub reportText : Report → List ℕ
-reportText r = countText (getD (r .terminals) 0 0) ++ countText (getD (r .terminals) 1 0) ++ countText (getD (r .terminals) 2 0)
+reportText r = countsText (r .terminals) ++ countsText (r .lost)
 
 -- ---- the answer, with its line feed
 unfoldable pub answerText : Answer → List ℕ

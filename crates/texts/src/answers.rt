@@ -4,7 +4,7 @@ ghost use mathlib.Core.Bool.{cond};
 ghost use Prim.Native.Nat.{_+_, _<_};
 ghost use lib.ListN.{length};
 ghost use Rattle.texts.specs.Kept.{noText, typed, bytesOf};
-ghost use Rattle.texts.specs.Answers.{glyphOf, hexText, nibbleText, flagText, placeText, decimalText, countText, reportText, answerText};
+ghost use Rattle.texts.specs.Answers.{glyphOf, hexText, nibbleText, flagText, placeText, decimalText, countText, countsText, reportText, answerText};
 ghost use Rattle.basics.specs.Buffer.{fits, laidOf};
 use crate::Text;
 use crate::kept::kept_len;
@@ -79,11 +79,19 @@ fn count(t: Text, n: u32) -> Text
     decimal(push(t, b' '), n)
 }
 
+fn counts(t: Text, n: [u32; 3]) -> Text
+    ensures { λ r. ⌜ r ≡ typed t (countsText n) ⌝ }
+{
+    count(count(count(t, n[0]), n[1]), n[2])
+}
+
+// The terminals, and then the lost.
 fn report(t: Text, r: Report) -> Text
     ensures { λ u. ⌜ u ≡ typed t (reportText r) ⌝ }
 {
-    let n = r.terminals;
-    count(count(count(t, n[0]), n[1]), n[2])
+    let terminals = r.terminals;
+    let lost = r.lost;
+    counts(counts(t, terminals), lost)
 }
 
 // The line of an answer, with its line feed.

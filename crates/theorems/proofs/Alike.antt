@@ -2,18 +2,21 @@
 -- Assumes nothing.
 use Prim.Native.Nat.{ℕ}
 use mathlib.Core.Path.{_≡_, refl, ap, ap₂, _∙_}
-use mathlib.Core.Bool.{Bool, true, false, not, _&&_, cond}
+use mathlib.Core.Bool.{Bool, not, _&&_, cond}
 use mathlib.Core.List.{List}
 use lib.Dec.{eqb}
 use lib.ListN.{getD}
 use Rattle.rules.specs.declared.Device.{Device}
 use Rattle.rules.specs.declared.Counter.{Counter}
-use Rattle.rules.specs.Record.{portAt, patternAt, counterAt, idle, ofPort}
+use Rattle.rules.specs.declared.Fate.{Fate}
+use Rattle.rules.specs.declared.Fate.the-variants.{Nothing, Taken, Kept, Lost}
+use Rattle.rules.specs.Record.{portAt, patternAt, counterAt, sourceAt, idle, ofPort}
 use Rattle.rules.specs.With.{withCounters, withPattern, withPmf, withCatcher}
 use Rattle.rules.specs.Registers.{portEnabled}
 use Rattle.rules.specs.Counters.{outputOf}
 use Rattle.rules.specs.PortData.{caughtOf, seenOf, pinsOf, pathOf, standing, valueAt, pinsAt, pathAt, seenAt}
 use Rattle.rules.specs.Patterns.{matchOf}
+use Rattle.rules.specs.Interrupts.{fateOf, afterFate}
 use Rattle.rules.specs.Step.{linesAt, eventAt, caughtAt, catchers, matchedBy, patternTurn, settled}
 use Rattle.theorems.proofs.Frame.{event-counters}
 
@@ -63,10 +66,16 @@ module _ (d : Device) (m : List Counter) (a : Alike (d .counters) m) where
   catchers-alike = simp (caught-alike 0, caught-alike 1, caught-alike 2)
 
 -- a pattern's turn does not look at the counters but for what is seen
+fate-others : (d : Device) (m : List Counter) (k : ℕ) (f : Fate) → afterFate (others d m) k f ≡ others (afterFate d k f) m
+unfolding afterFate
+fate-others d m k Nothing = refl
+fate-others d m k Taken = refl
+fate-others d m k Kept = refl
+fate-others d m k Lost = refl
+
 event-others : (d : Device) (m : List Counter) (k : ℕ) (hides happens : Bool) → eventAt (others d m) k hides happens ≡ others (eventAt d k hides happens) m
 unfolding eventAt
-event-others d m k hides true = refl
-event-others d m k hides false = refl
+event-others d m k hides happens = fate-others d m k (fateOf hides happens (sourceAt d k))
 
 matched-others : (p : ℕ) (matches : Bool) (d : Device) (m : List Counter) → matchedBy p matches (others d m) ≡ others (matchedBy p matches d) m
 unfolding matchedBy

@@ -13,7 +13,7 @@ use Rattle.rules.specs.declared.Event.{Event}
 use Rattle.rules.specs.declared.Outcome.{Outcome}
 use Rattle.rules.specs.declared.Ran.{Ran}
 use Rattle.basics.specs.Byte.{bit, num}
-use Rattle.rules.specs.Record.{counterAt}
+use Rattle.rules.specs.Record.{Shaped, counterAt, sourceAt, ofCounter}
 use Rattle.rules.specs.With.{withPhase}
 use Rattle.rules.specs.Report.{noReport}
 use Rattle.rules.specs.Registers.{counterOn, reset}
@@ -24,14 +24,15 @@ use Rattle.rules.specs.Sound.{soundOf}
 use Rattle.rules.specs.Events.{isT, answerOf, outcomeOf, eventOf}
 use Rattle.basics.proofs.Places.{all-zero}
 use Rattle.theorems.proofs.Clauses.{sound-parts}
-use Rattle.theorems.specs.Free.{Free, timerClocks, fullOf, terminalsAfter, countAfter}
+use Rattle.theorems.specs.Free.{Free, timerClocks, fullOf, terminalsAfter, countAfter, lostAfter}
 use Rattle.theorems.proofs.Reports.{clock-first, clock-timer, added-at}
-use Rattle.theorems.proofs.ReportLaws.{num-le}
+use Rattle.theorems.proofs.ReportLaws.{theTerminals, num-le}
 use Rattle.theorems.proofs.Frame.{frame-step}
 use Rattle.theorems.proofs.Demand3.{ran}
 use Rattle.theorems.proofs.Countdown.{countdown, counts-by-division}
 use Rattle.theorems.proofs.Lines.{lines-phase, gate-kept}
 use Rattle.theorems.proofs.Timer.{count-last, count-more, clocked}
+use Rattle.theorems.proofs.Losses.{ran-lost}
 
 -- ---- one count is one step of the countdown
 module _ (c : Counter) (con : continuous c ≡ true) (sq : square c ≡ false) where
@@ -139,7 +140,7 @@ module _ (d : Device) (i : ℕ) (h : i < 3) where
         running = ap (λ (m : ℕ). bit m 0) (g .master) ∙ r .running;
         constant = stepped-kept (s .device) i h (r .free) .constant ∙ r .constant;
         sum = omega (arith, r .sum, b, q);
-        state = ap (λ (n : ℕ). (counterAt (t .device) i .count, n)) (added-at (s .report) t i h)
+        state = ap (λ (n : ℕ). (counterAt (t .device) i .count, n)) (added-at theTerminals (s .report) t i h)
             ∙ ap (λ (c : Counter). (c .count, getD (s .report .terminals) i 0 + num (getD (t .terminals) i false))) (w .counter)
             ∙ ap (λ (v : Bool). (countOf (counterAt (s .device) i) .counter .count, getD (s .report .terminals) i 0 + num v)) (w .terminal)
             ∙ count-counts (counterAt (s .device) i) (r .free .continues) (r .free .notSquare) (getD (s .report .terminals) i 0)
@@ -171,18 +172,27 @@ not-held true d i h s f r =
     absurd (false≢true (sym (ap (λ (c : Counter). c .cip) (sound-parts d s .base .held r .counters i h)) ∙ f .cip))
 
 -- ---- the law
--- counter i's count and report after the event e, by division, where e is T n
+-- counter i's count and report after the event e, by division, where e is T n; and what of it is lost, in a record of the struct's shape
 pub record Divided (d : Device) (i : ℕ) (e : Event) : Type 0 where
   pub count : counterAt (eventOf d e .device) i .count
       ≡ countAfter (fullOf 65536 (counterAt d i .count)) (fullOf 65536 (counterAt d i .constant)) (timerClocks d (e .a)) % 65536
   pub report : getD (eventOf d e .answer .report .terminals) i 0
       ≡ terminalsAfter (fullOf 65536 (counterAt d i .count)) (fullOf 65536 (counterAt d i .constant)) (timerClocks d (e .a))
+  pub lost : Shaped d
+      → getD (eventOf d e .answer .report .lost) i 0
+      ≡ lostAfter (sourceAt d (ofCounter i))
+      (terminalsAfter (fullOf 65536 (counterAt d i .count)) (fullOf 65536 (counterAt d i .constant)) (timerClocks d (e .a)))
 
 event-view : (d : Device) (i : ℕ) (e : Event) → So (isT e) → soundOf d ≡ true
     → _≡_ {A = ℕ × ℕ} (counterAt (eventOf d e .device) i .count, getD (eventOf d e .answer .report .terminals) i 0)
     (counterAt (ranOf (e .a) d .device) i .count, getD (ranOf (e .a) d .report .terminals) i 0)
 unfolding outcomeOf answerOf
 event-view d i e t s = ap (λ (o : Outcome). (counterAt (o .device) i .count, getD (o .answer .report .terminals) i 0)) (ran d e t s)
+
+event-lost : (d : Device) (i : ℕ) (e : Event) → So (isT e) → i < 3 → soundOf d ≡ true → Shaped d
+    → getD (eventOf d e .answer .report .lost) i 0 ≡ lostAfter (sourceAt d (ofCounter i)) (getD (eventOf d e .answer .report .terminals) i 0)
+unfolding outcomeOf answerOf
+event-lost d i e t h s shape = rw (ran d e t s) (ran-lost d i h (e .a) shape s)
 
 pub division : (d : Device) (i : ℕ) (e : Event) → So (isT e) → i < 3 → soundOf d ≡ true → Free d i → counterAt d i .count < 65536
     → counterAt d i .constant < 65536 → Divided d i e
@@ -195,4 +205,9 @@ division d i e is-t h s f hc ht =
     let t = counterAt d i .constant in
     let p = event-view d i e is-t s ∙ a .state ∙ ap (λ (m : ℕ). iterate m (countdown 65536 t) (counterAt d i .count, 0)) k
     ∙ counts-by-division 65536 (counterAt d i .count) t hc ht (timerClocks d n) in
-    record { count = ap (λ (w : ℕ × ℕ). w .0) p; report = ap (λ (w : ℕ × ℕ). w .1) p }
+    let r = ap (λ (w : ℕ × ℕ). w .1) p in
+    record {
+      count = ap (λ (w : ℕ × ℕ). w .0) p;
+      report = r;
+      lost = λ shape. event-lost d i e is-t h s shape ∙ ap (lostAfter (sourceAt d (ofCounter i))) r;
+    }

@@ -2,7 +2,7 @@
 -- Assumes nothing.
 use Prim.Native.Nat.{ℕ}
 use mathlib.Core.Path.{_≡_, refl, _∙_}
-use mathlib.Core.Bool.{Bool, true, false}
+use mathlib.Core.Bool.{Bool, true}
 use lib.ListN.{set}
 use Rattle.rules.specs.declared.Device.{Device}
 use Rattle.rules.specs.declared.Counted.{Counted}
@@ -12,6 +12,7 @@ use Rattle.rules.specs.With.{withCounter, withPattern, withPmf, withCatcher}
 use Rattle.rules.specs.Registers.{counterEnabled}
 use Rattle.rules.specs.Counters.{reachOf, turnOf}
 use Rattle.rules.specs.Step.{eventAt, turned, counterTurn, caughtAt, catchers, matchedBy, patternTurn, settled, stepOf}
+use Rattle.theorems.proofs.Fates.{by-source}
 
 -- e is d but for its counters, catchers, patterns' PMF and sources: of B and C, whose bits are the counters' lines, all but the catchers
 pub record Frame (d e : Device) : Type 0 where
@@ -35,12 +36,11 @@ frame-trans p q =
     }
 
 pub frame-event : (d : Device) (k : ℕ) (hides happens : Bool) → Frame d (eventAt d k hides happens)
-unfolding eventAt
-frame-event d k hides true = record { master = refl; config = refl; phase = refl; portB = refl; portC = refl }
-frame-event d k hides false = frame-refl d
+frame-event d k hides happens =
+    by-source (Frame d) d k hides happens (frame-refl d) (λ s. record { master = refl; config = refl; phase = refl; portB = refl; portC = refl })
 
 pub frame-turned : (d : Device) (i : ℕ) (r : Counted) → Frame d (turned d i r .device)
-unfolding turned
+unfolding turned eventAt
 frame-turned d i r =
     let w : Frame d (withCounter d i (r .counter)) = record { master = refl; config = refl; phase = refl; portB = refl; portC = refl } in
     frame-trans w (frame-event (withCounter d i (r .counter)) (ofCounter i) true (r .terminal))
@@ -75,9 +75,7 @@ frame-step timer d0 d1 =
 
 -- ---- the counters go by their turns alone
 pub event-counters : (d : Device) (k : ℕ) (hides happens : Bool) → eventAt d k hides happens .counters ≡ d .counters
-unfolding eventAt
-event-counters d k hides true = refl
-event-counters d k hides false = refl
+event-counters d k hides happens = by-source (λ e. e .counters ≡ d .counters) d k hides happens refl (λ s. refl)
 
 -- the turn of counter i, in a device with these counters
 abbrev pub turnAt : Link → Bool → ℕ → ℕ → ℕ → Device → Counted
@@ -85,7 +83,7 @@ turnAt link timer were are i d = turnOf (counterEnabled d i) (reachOf (counterAt
 
 pub turn-counters : (k : Link) (timer : Bool) (were are i : ℕ) (d : Device)
     → counterTurn k timer were are i d .device .counters ≡ set (d .counters) i (turnAt k timer were are i d .counter)
-unfolding counterTurn turned
+unfolding counterTurn turned eventAt
 turn-counters k timer were are i d = event-counters (withCounter d i _) (ofCounter i) true _
 
 pub settled-counters : (a b : ℕ) (d : Device) → settled a b d .counters ≡ d .counters

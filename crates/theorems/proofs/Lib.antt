@@ -9,7 +9,8 @@ pub mod SourceLaws
 pub mod PortLaws
 pub mod PatternLaws
 pub mod Stores
--- What an event does: a step, a write, what needs no step.
+-- What an event does: at a source, in a step, as a write, without a step.
+pub mod Fates
 pub mod Steps
 pub mod Writes
 pub mod Stepless
@@ -31,6 +32,7 @@ pub mod Demand3
 pub mod Countdown
 pub mod Lines
 pub mod Timer
+pub mod Losses
 pub mod Division
 -- Clocks: many at once, as whole rounds and as a stretch.
 pub mod Rounds

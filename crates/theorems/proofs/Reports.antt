@@ -3,6 +3,7 @@
 use Prim.Native.Nat.{ℕ, zero, suc, _+_, _*_, _≤_, _<_}
 use mathlib.Core.Path.{_≡_, refl, sym, ap, _∙_}
 use mathlib.Core.Bool.{Bool, true, false}
+use mathlib.Core.List.{List}
 use native.Mathlib.Omega.{arith}
 use lib.ListN.{getD}
 use Rattle.rules.specs.declared.Device.{Device}
@@ -11,7 +12,7 @@ use Rattle.rules.specs.declared.Report.{Report}
 use Rattle.rules.specs.declared.Stepped.{Stepped}
 use Rattle.basics.specs.Byte.{num}
 use Rattle.rules.specs.With.{withPhase}
-use Rattle.rules.specs.Report.{noReport, reportsAdded, stepReport}
+use Rattle.rules.specs.Report.{noReport, nums, reportsAdded, stepReport}
 use Rattle.rules.specs.Registers.{reset}
 use Rattle.rules.specs.Step.{stepOf, reported, clockOf, ranOf}
 use Rattle.basics.specs.Iterate.{iterate}
@@ -19,7 +20,8 @@ use Rattle.theorems.specs.Reports.{Whole, Fits}
 use Rattle.theorems.specs.Free.{timerClocks}
 use Rattle.theorems.specs.Ticks.{onTop}
 use Rattle.basics.proofs.Iterate.{iterate-add, iterate-commutes}
-use Rattle.theorems.proofs.ReportLaws.{none-whole, added-whole, added-none, added-assoc, none-fits, added-fits, step-fits, fits-more, sum-at, sum-le, num-le}
+use Rattle.theorems.proofs.ReportLaws.{none-whole, added-whole, added-none, added-assoc, none-fits, added-fits, step-fits, fits-more}
+use Rattle.theorems.proofs.ReportLaws.{Row, sum-at, sum-le, num-le, nums-at, nums-le}
 use Rattle.theorems.proofs.Frame.{frame-step}
 
 -- ---- the three cases of a clock
@@ -94,24 +96,22 @@ unfolding ranOf iterate
 ran-held zero d r = refl
 ran-held (suc n) d r = ap clockOf (ran-held n d r) ∙ clock-held (start d) r
 
--- ---- a timer clock has at most one terminal of each counter
-pub added-at : (r : Report) (t : Stepped) (i : ℕ) → i < 3
-    → getD (reported r t .report .terminals) i 0 ≡ getD (r .terminals) i 0 + num (getD (t .terminals) i false)
-unfolding reported reportsAdded
-added-at r t i h = sum-at (r .terminals) (stepReport t .terminals) i h ∙ ap (λ (n : ℕ). getD (r .terminals) i 0 + n) (step-at t i h)
-  where
-    step-at : (t : Stepped) (i : ℕ) → i < 3 → getD (stepReport t .terminals) i 0 ≡ num (getD (t .terminals) i false)
-    step-at t zero h = refl
-    step-at t (suc zero) h = refl
-    step-at t (suc (suc zero)) h = refl
-    step-at t (suc (suc (suc i))) h = absurd (omega arith)
+-- ---- a timer clock adds at most one of each counter to a row
+pub added-at : (w : Row) (r : Report) (t : Stepped) (i : ℕ) → i < 3
+    → getD (w .of (reported r t .report)) i 0 ≡ getD (w .of r) i 0 + num (getD (w .marks t) i false)
+unfolding reported
+added-at w r t i h =
+    ap (λ (l : List ℕ). getD l i 0) (w .adds r t) ∙ sum-at (w .of r) (nums (w .marks t)) i h
+    ∙ ap (λ (n : ℕ). getD (w .of r) i 0 + n) (nums-at (w .marks t) i h)
 
-pub no-less : (r : Report) (t : Stepped) (i : ℕ) → i < 3 → getD (r .terminals) i 0 ≤ getD (reported r t .report .terminals) i 0
-no-less r t i h = omega (arith, added-at r t i h)
+pub no-less : (w : Row) (r : Report) (t : Stepped) (i : ℕ) → i < 3 → getD (w .of r) i 0 ≤ getD (w .of (reported r t .report)) i 0
+no-less w r t i h = omega (arith, added-at w r t i h)
 
-pub one-more : (r : Report) (t : Stepped) (i : ℕ) → getD (reported r t .report .terminals) i 0 ≤ getD (r .terminals) i 0 + 1
-unfolding reported reportsAdded
-one-more r t i = omega (arith, sum-le (r .terminals) (stepReport t .terminals) i, step-fits t .terminals i)
+pub one-more : (w : Row) (r : Report) (t : Stepped) (i : ℕ) → getD (w .of (reported r t .report)) i 0 ≤ getD (w .of r) i 0 + 1
+unfolding reported
+one-more w r t i =
+    let e = ap (λ (l : List ℕ). getD l i 0) (w .adds r t) in
+    omega (arith, e, sum-le (w .of r) (nums (w .marks t)) i, nums-le (w .marks t) i)
 
 -- after n clocks of which k were timer clocks the report fits k
 record Spent (d : Device) (n : ℕ) (s : Ran) : Type 0 where

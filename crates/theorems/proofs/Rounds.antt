@@ -7,8 +7,7 @@ use mathlib.Core.List.{List, [], _∷_}
 use native.Mathlib.Nat.{zero-mul, suc-mul, add-zero}
 use native.Mathlib.Omega.{arith}
 use lib.Dec.{lit<}
-use lib.ListN.{getD}
-use Rattle.rules.specs.declared.Device.{Device}
+use lib.ListN.{getD, length}
 use Rattle.rules.specs.declared.Ran.{Ran}
 use Rattle.rules.specs.declared.Report.{Report}
 use Rattle.rules.specs.Registers.{reset}
@@ -18,7 +17,8 @@ use Rattle.basics.specs.Iterate.{iterate}
 use Rattle.theorems.specs.Reports.{Whole}
 use Rattle.theorems.specs.Ticks.{onTop}
 use Rattle.basics.proofs.Iterate.{iterate-add, iterate-commutes}
-use Rattle.basics.proofs.Lists.{three as of-three}
+use Rattle.basics.proofs.Lists.{three}
+use Rattle.theorems.proofs.ReportLaws.{Row, theTerminals, theLost}
 use Rattle.theorems.proofs.Reports.{clock-held, clock-first, clock-timer, clock-on-top, clocks-add, no-less, one-more}
 
 -- ---- over any function f, and any g that does not matter to it: a round that does g
@@ -47,98 +47,120 @@ same-after (suc q) y = same-after q y
 pub plain-rounds : {A : Type 0} (f : A → A) (p : ℕ) (x : A) → iterate p f x ≡ x → (q r : ℕ) → iterate (q * p + r) f x ≡ iterate r f x
 plain-rounds f p x round q r = rounds f (λ x. x) (λ y. refl) p x round q r ∙ same-after q (iterate r f x)
 
--- ---- clocks: counts never fall, and rise by at most one a clock
-clock-rises : (i : ℕ) → i < 3 → (r p : Bool) (s : Ran) → reset (s .device) ≡ r → s .device .phase ≡ p
-    → getD (s .report .terminals) i 0 ≤ getD (clockOf s .report .terminals) i 0
-clock-rises i h true p s e q = rw (clock-held s e) (omega arith)
-clock-rises i h false false s e q = rw (clock-first s e q) (omega arith)
-clock-rises i h false true s e q = rw (clock-timer s e q) (no-less (s .report) _ i h)
+-- ---- clocks: the numbers of a row never fall, and rise by at most one a clock
+module _ (w : Row) (i : ℕ) where
+  -- the row's number of counter i
+  abbrev pub at : Ran → ℕ
+  at s = getD (w .of (s .report)) i 0
 
-clock-once : (i : ℕ) (r p : Bool) (s : Ran) → reset (s .device) ≡ r → s .device .phase ≡ p
-    → getD (clockOf s .report .terminals) i 0 ≤ getD (s .report .terminals) i 0 + 1
-clock-once i true p s e q = rw (clock-held s e) (omega arith)
-clock-once i false false s e q = rw (clock-first s e q) (omega arith)
-clock-once i false true s e q = rw (clock-timer s e q) (one-more (s .report) _ i)
+  clock-rises : i < 3 → (r p : Bool) (s : Ran) → reset (s .device) ≡ r → s .device .phase ≡ p → at s ≤ at (clockOf s)
+  clock-rises h true p s e q = rw (clock-held s e) (omega arith)
+  clock-rises h false false s e q = rw (clock-first s e q) (omega arith)
+  clock-rises h false true s e q = rw (clock-timer s e q) (no-less w (s .report) _ i h)
 
-pub once : (i : ℕ) (s : Ran) → getD (clockOf s .report .terminals) i 0 ≤ getD (s .report .terminals) i 0 + 1
-once i s = clock-once i _ _ s refl refl
+  clock-once : (r p : Bool) (s : Ran) → reset (s .device) ≡ r → s .device .phase ≡ p → at (clockOf s) ≤ at s + 1
+  clock-once true p s e q = rw (clock-held s e) (omega arith)
+  clock-once false false s e q = rw (clock-first s e q) (omega arith)
+  clock-once false true s e q = rw (clock-timer s e q) (one-more w (s .report) _ i)
 
-pub rises : (i n : ℕ) (s : Ran) → i < 3 → getD (s .report .terminals) i 0 ≤ getD (iterate n clockOf s .report .terminals) i 0
-unfolding iterate
-rises i zero s h = omega arith
-rises i (suc n) s h = omega (arith, rises i n s h, clock-rises i h _ _ (iterate n clockOf s) refl refl)
+  pub once : (s : Ran) → at (clockOf s) ≤ at s + 1
+  once s = clock-once _ _ s refl refl
 
-pub at-most : (i n : ℕ) (s : Ran) → getD (iterate n clockOf s .report .terminals) i 0 ≤ getD (s .report .terminals) i 0 + n
-unfolding iterate
-at-most i zero s = omega arith
-at-most i (suc n) s = omega (arith, at-most i n s, once i (iterate n clockOf s))
+  pub rises : (n : ℕ) (s : Ran) → i < 3 → at s ≤ at (iterate n clockOf s)
+  unfolding iterate
+  rises zero s h = omega arith
+  rises (suc n) s h = omega (arith, rises n s h, clock-rises h _ _ (iterate n clockOf s) refl refl)
+
+  pub at-most : (n : ℕ) (s : Ran) → at (iterate n clockOf s) ≤ at s + n
+  unfolding iterate
+  at-most zero s = omega arith
+  at-most (suc n) s = omega (arith, at-most n s, once (iterate n clockOf s))
 
 -- ---- whole rounds of clocks
--- a counter's terminals after q rounds more, of which each has as many as from `was` to `is`
+-- a number after q rounds more, of which each adds as much as there was from `was` to `is`
 abbrev pub afterRounds : ℕ → ℕ → ℕ → ℕ
 afterRounds q was is = is + q * (is - was)
 
--- and a report
+-- a row, and a report
+abbrev pub rowAfter : ℕ → List ℕ → List ℕ → List ℕ
+rowAfter q was is =
+    afterRounds q (getD was 0 0) (getD is 0 0) ∷ afterRounds q (getD was 1 0) (getD is 1 0) ∷ afterRounds q (getD was 2 0) (getD is 2 0) ∷ []
+
 abbrev pub reportAfter : ℕ → Report → Report → Report
 reportAfter q was is =
-    record {
-      terminals = afterRounds q (getD (was .terminals) 0 0) (getD (is .terminals) 0 0)
-          ∷ afterRounds q (getD (was .terminals) 1 0) (getD (is .terminals) 1 0)
-          ∷ afterRounds q (getD (was .terminals) 2 0) (getD (is .terminals) 2 0)
-          ∷ [];
-    }
+    record { terminals = rowAfter q (was .terminals) (is .terminals); lost = rowAfter q (was .lost) (is .lost) }
 
--- the same report on top, q times
+-- the same row on top, q times
+abbrev topped : ℕ → List ℕ → List ℕ → List ℕ
+topped q gs ns = (getD ns 0 0 + q * getD gs 0 0) ∷ (getD ns 1 0 + q * getD gs 1 0) ∷ (getD ns 2 0 + q * getD gs 2 0) ∷ []
+
+topped-none : (gs ns : List ℕ) → length ns ≡ 3 → ns ≡ topped 0 gs ns
+topped-none gs ns h = simp (zero-mul, add-zero) (three 0 ns h)
+
 another : (a x q : ℕ) → a + (x + q * a) ≡ x + suc q * a
 another a x q = omega (arith, suc-mul q a)
 
-abbrev three : ℕ → ℕ → ℕ → Report
-three a b c = record { terminals = a ∷ b ∷ c ∷ [] }
+topped-more : (q : ℕ) (gs ns : List ℕ) → sums gs (topped q gs ns) ≡ topped (suc q) gs ns
+unfolding sums
+topped-more q gs ns =
+    λ i. another (getD gs 0 0) (getD ns 0 0) q i ∷ another (getD gs 1 0) (getD ns 1 0) q i ∷ another (getD gs 2 0) (getD ns 2 0) q i ∷ []
 
-tops : (q : ℕ) (d : Device) (a b c x y z : ℕ)
-    → iterate q (onTop (three a b c)) (record { device = d; report = three x y z })
-    ≡ record { device = d; report = three (x + q * a) (y + q * b) (z + q * c) }
-unfolding iterate reportsAdded sums
-tops zero d a b c x y z = simp (zero-mul, add-zero)
-tops (suc q) d a b c x y z = ap (onTop (three a b c)) (tops q d a b c x y z) ∙ (simp (another a x q, another b y q, another c z q))
+-- and the same report
+abbrev toppedReport : ℕ → Report → Report → Report
+toppedReport q g r = record { terminals = topped q (g .terminals) (r .terminals); lost = topped q (g .lost) (r .lost) }
 
-triple : {a b c x y z : ℕ} → a ≡ x → b ≡ y → c ≡ z → three a b c ≡ three x y z
-triple p q r = λ k. three (p k) (q k) (r k)
+tops : (q : ℕ) (g : Report) (s : Ran) → Whole (s .report)
+    → iterate q (onTop g) s ≡ record { device = s .device; report = toppedReport q g (s .report) }
+unfolding iterate reportsAdded
+tops zero g s w =
+    let ts = topped-none (g .terminals) (s .report .terminals) (w .terminals) in
+    let ls = topped-none (g .lost) (s .report .lost) (w .lost) in
+    λ i. record { device = s .device; report = record { terminals = ts i; lost = ls i } }
+tops (suc q) g s w =
+    let ts = topped-more q (g .terminals) (s .report .terminals) in
+    let ls = topped-more q (g .lost) (s .report .lost) in
+    ap (onTop g) (tops q g s w) ∙ (λ i. record { device = s .device; report = record { terminals = ts i; lost = ls i } })
 
--- a whole report is its numbers
-parts : (r : Report) → Whole r → r ≡ three (getD (r .terminals) 0 0) (getD (r .terminals) 1 0) (getD (r .terminals) 2 0)
-parts r w = ap (λ (l : List ℕ). record { terminals = l }) (of-three 0 (r .terminals) (w .terminals))
+-- what a row gained; on top of what it was, it is what the row is
+abbrev gains : List ℕ → List ℕ → List ℕ
+gains was is = (getD is 0 0 - getD was 0 0) ∷ (getD is 1 0 - getD was 1 0) ∷ (getD is 2 0 - getD was 2 0) ∷ []
+
+less-and-more : (n m : ℕ) → m ≤ n → n ≡ (n - m) + m
+less-and-more n m h = omega arith
+
+regained : (was is : List ℕ) → length is ≡ 3 → ((i : ℕ) → i < 3 → getD was i 0 ≤ getD is i 0) → is ≡ sums (gains was is) was
+unfolding sums
+regained was is h g =
+    three 0 is h
+    ∙ (λ i.
+    less-and-more (getD is 0 0) (getD was 0 0) (g 0 (lit< tt)) i
+    ∷ less-and-more (getD is 1 0) (getD was 1 0) (g 1 (lit< tt)) i
+    ∷ less-and-more (getD is 2 0) (getD was 2 0) (g 2 (lit< tt)) i
+    ∷ [])
 
 -- the record is what it was p clocks ago
 module _ (was now : Ran) (p : ℕ) (now-whole : Whole (now .report)) (present : now ≡ iterate p clockOf was) (back : now .device ≡ was .device) where
-  abbrev gain : ℕ → ℕ
-  gain i = getD (now .report .terminals) i 0 - getD (was .report .terminals) i 0
+  pub gained : (w : Row) (i : ℕ) → i < 3 → (at w i was ≤ at w i now) × (at w i now - at w i was ≤ p)
+  gained w i h =
+      let e = ap (at w i) present in
+      (omega (arith, e, rises w i p was h), omega (arith, e, at-most w i p was))
 
-  abbrev gains : Report
-  gains = three (gain 0) (gain 1) (gain 2)
+  abbrev gain : Report
+  gain = record { terminals = gains (was .report .terminals) (now .report .terminals); lost = gains (was .report .lost) (now .report .lost) }
 
-  pub gained : (i : ℕ) → i < 3 → (getD (was .report .terminals) i 0 ≤ getD (now .report .terminals) i 0) × (gain i ≤ p)
-  gained i h =
-      let e = ap (λ (s : Ran). getD (s .report .terminals) i 0) present in
-      (omega (arith, e, rises i p was h), omega (arith, e, at-most i p was))
-
-  anchored : now ≡ onTop gains was
-  unfolding reportsAdded sums
+  anchored : now ≡ onTop gain was
+  unfolding reportsAdded
   anchored =
-      let sum : now .report ≡ reportsAdded gains (was .report) =
-      parts (now .report) now-whole
-      ∙ triple (omega (arith, gained 0 (lit< tt))) (omega (arith, gained 1 (lit< tt))) (omega (arith, gained 2 (lit< tt))) in
-      λ k. record { device = back k; report = sum k }
+      let ts = regained (was .report .terminals) (now .report .terminals) (now-whole .terminals) (λ i h. gained theTerminals i h .0) in
+      let ls = regained (was .report .lost) (now .report .lost) (now-whole .lost) (λ i h. gained theLost i h .0) in
+      λ k. record { device = back k; report = record { terminals = ts k; lost = ls k } }
 
-  a-round : iterate p clockOf now ≡ onTop gains now
-  a-round = ap (iterate p clockOf) anchored ∙ clocks-add gains p was ∙ ap (onTop gains) (sym present)
+  a-round : iterate p clockOf now ≡ onTop gain now
+  a-round = ap (iterate p clockOf) anchored ∙ clocks-add gain p was ∙ ap (onTop gain) (sym present)
 
   -- where q rounds and r clocks from now end
   pub whole : (q r : ℕ)
       → iterate (q * p + r) clockOf now ≡ iterate r clockOf (record { device = now .device; report = reportAfter q (was .report) (now .report) })
   whole q r =
       iterate-add (q * p) r clockOf now
-      ∙ ap (iterate r clockOf)
-      (only-rounds clockOf (onTop gains) (clock-on-top gains) p now a-round q
-      ∙ ap (λ (x : Report). iterate q (onTop gains) (record { device = now .device; report = x })) (parts (now .report) now-whole)
-      ∙ tops q (now .device) (gain 0) (gain 1) (gain 2) _ _ _)
+      ∙ ap (iterate r clockOf) (only-rounds clockOf (onTop gain) (clock-on-top gain) p now a-round q ∙ tops q gain now now-whole)

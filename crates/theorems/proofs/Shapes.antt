@@ -21,16 +21,17 @@ use Rattle.rules.specs.declared.Kind.the-variants.{Master, Config, Vector, Pola
 use Rattle.rules.specs.declared.Kind.the-variants.{Data, Current, Constant, CounterMode, CurrentVector, PortMode, Handshake, PatternPolarity, Transition, Mask, Absent}
 use Rattle.basics.specs.Signs.{within}
 use Rattle.basics.specs.Byte.{bit}
-use Rattle.rules.specs.Record.{Shaped, freshOf, sourceAt, ofPort, ofCounter, resetOf}
+use Rattle.rules.specs.Record.{Shaped, freshOf, ofPort, ofCounter, resetOf}
 use Rattle.rules.specs.With.{withMaster, withVector, withPort, withPattern, withCounter, withSource, withIei, withPhase}
 use Rattle.rules.specs.Report.{noReport}
 use Rattle.rules.specs.Registers.{reset, kindOf}
-use Rattle.rules.specs.Interrupts.{raisedOf, acknowledged}
+use Rattle.rules.specs.Interrupts.{acknowledged}
 use Rattle.rules.specs.Step.{eventAt, turned, counterTurn, catchers, matchedBy, patternTurn, settled, stepOf, reported, clockOf, ranOf}
 use Rattle.basics.specs.Iterate.{iterate}
 use Rattle.rules.specs.Access.{afterRead, masterWritten, configWritten, portCommanded, counterCommanded, writtenOf}
 use Rattle.rules.specs.Events.{isX, isW, isR, isP, isT, isK, writeEffect, readEffect, outsideSet, pinsEffect, clocksEffect, acknowledgeEffect, ieiEffect, effectOf, outcomeOf, eventOf}
 use Rattle.basics.proofs.Tests.{by-test}
+use Rattle.theorems.proofs.Fates.{by-source}
 use Rattle.theorems.proofs.Refusals.{ways}
 
 -- the record with other parts, as many
@@ -60,16 +61,14 @@ module _ (d : Device) (h : Shaped d) where
   source-shaped k s = shaped d (withSource d k s) h refl refl refl refl (length-set (d .sources) k s)
 
   event-at-shaped : (k : ℕ) (hides happens : Bool) → Shaped (eventAt d k hides happens)
-  unfolding eventAt
-  event-at-shaped k hides happens =
-      by-test Shaped happens (withSource d k (raisedOf hides (sourceAt d k))) d (λ _. source-shaped k (raisedOf hides (sourceAt d k))) (λ _. h)
+  event-at-shaped k hides happens = by-source Shaped d k hides happens h (source-shaped k)
 
 -- ---- a step
 turned-shaped : (d : Device) (i : ℕ) (r : Counted) → Shaped d → Shaped (turned d i r .device)
-unfolding turned
+unfolding turned eventAt
 turned-shaped d i r h = event-at-shaped (withCounter d i (r .counter)) (counter-shaped d h i (r .counter)) (ofCounter i) true (r .terminal)
 
-counter-turn-shaped : (link : Link) (timer : Bool) (were are i : ℕ) (d : Device) → Shaped d → Shaped (counterTurn link timer were are i d .device)
+pub counter-turn-shaped : (link : Link) (timer : Bool) (were are i : ℕ) (d : Device) → Shaped d → Shaped (counterTurn link timer were are i d .device)
 unfolding counterTurn
 counter-turn-shaped link timer were are i d h = turned-shaped d i _ h
 
@@ -90,7 +89,7 @@ step-shaped timer d0 d1 h =
     (counter-turn-shaped _ timer _ _ 2 _ (counter-turn-shaped _ timer _ _ 1 _ (counter-turn-shaped _ timer _ _ 0 d1 h)))))
 
 -- ---- the clock
-phase-shaped : (d : Device) (v : Bool) → Shaped d → Shaped (withPhase d v)
+pub phase-shaped : (d : Device) (v : Bool) → Shaped d → Shaped (withPhase d v)
 phase-shaped d v h = shaped d (withPhase d v) h refl refl refl refl refl
 
 pub clock-shaped : (s : Ran) → Shaped (s .device) → Shaped (clockOf s .device)

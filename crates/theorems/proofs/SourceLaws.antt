@@ -2,13 +2,12 @@
 -- Assumes nothing.
 use Prim.Native.Nat.{ℕ}
 use mathlib.Core.Path.{refl}
-use mathlib.Core.Bool.{Bool, true, false, not, _&&_, cond, false≢true}
+use mathlib.Core.Bool.{Bool, true, false, not, _&&_, So, cond, false≢true}
 use lib.Dec.{eqb}
 use Rattle.rules.specs.declared.Source.{Source}
 use Rattle.rules.specs.Registers.{ipCleared, commanded}
 use Rattle.rules.specs.With.{withIus, withIe, withIp, withHidden}
-use Rattle.rules.specs.Interrupts.{raisedOf}
-use Rattle.basics.proofs.Tests.{so-both, right, by-test}
+use Rattle.basics.proofs.Tests.{left, right, by-test}
 use Rattle.theorems.proofs.Parts.{SourceSound}
 
 pub ius-sound : (s : Source) (v : Bool) → SourceSound s → SourceSound (withIus s v)
@@ -18,21 +17,16 @@ ie-sound : (s : Source) (v : Bool) → SourceSound s → SourceSound (withIe s v
 ie-sound s v h = record { err = h .err; hidden = h .hidden }
 
 -- IP set, ERR and the hidden error as they are
-ip-sound : (s : Source) → SourceSound s → SourceSound (withIp s true)
+pub ip-sound : (s : Source) → SourceSound s → SourceSound (withIp s true)
 ip-sound s h = record { err = λ _. refl; hidden = λ p. right (s .ip) (not (s .err)) (h .hidden p) }
 
 cleared-sound : (s : Source) → SourceSound (ipCleared s)
 unfolding ipCleared
 cleared-sound s = record { err = λ p. p; hidden = λ p. absurd (false≢true p) }
 
-pub raised-sound : (hides : Bool) (s : Source) → SourceSound s → SourceSound (raisedOf hides s)
-unfolding raisedOf
-raised-sound hides s h =
-    by-test SourceSound (s .ip) (cond (hides && not (s .err)) (withHidden s true) s) (withIp s true)
-    (λ p.
-    by-test SourceSound (hides && not (s .err)) (withHidden s true) s
-    (λ t. record { err = λ _. p; hidden = λ _. so-both p (right hides (not (s .err)) t) }) (λ _. h))
-    (λ _. ip-sound s h)
+-- the hidden error set, where IP is and ERR is not
+pub hidden-sound : (s : Source) → So (s .ip && not (s .err)) → SourceSound (withHidden s true)
+hidden-sound s h = record { err = λ _. left (s .ip) (not (s .err)) h; hidden = λ _. h }
 
 module _ (s : Source) (n : ℕ) (h : SourceSound s) where
   -- the command m, or what else the command does

@@ -11,35 +11,34 @@ use Rattle.rules.specs.declared.Device.{Device}
 use Rattle.rules.specs.declared.Counted.{Counted}
 use Rattle.rules.specs.declared.Link.{Link}
 use Rattle.rules.specs.Record.{portAt, patternAt, counterAt, sourceAt, bare, blank, ofPort, ofCounter}
-use Rattle.rules.specs.With.{withPattern, withCounter, withSource, withPmf}
+use Rattle.rules.specs.With.{withPattern, withCounter, withIp, withHidden, withPmf}
 use Rattle.rules.specs.Registers.{portEnabled, counterOn, counterEnabled}
 use Rattle.rules.specs.PortData.{valueAt, pinsOf, pathOf, pinsAt, pathAt, seenAt}
 use Rattle.rules.specs.Counters.{unlinked, reachOf, turnOf}
 use Rattle.rules.specs.Patterns.{matchOf}
-use Rattle.rules.specs.Interrupts.{raisedOf}
 use Rattle.rules.specs.Step.{linesAt, eventAt, turned, counterTurn, caughtAt, catchers, matchedBy, patternTurn, settled, stepOf}
 use Rattle.rules.specs.Sound.{pmfOnly, soundPortAt}
-use Rattle.basics.proofs.Tests.{never, by-test}
+use Rattle.basics.proofs.Tests.{never}
 use Rattle.basics.proofs.Places.{each2, each3, set-keeps, set-gives}
 use Rattle.theorems.proofs.Parts.{CounterSound, Cleared, Base, Sound}
 use Rattle.theorems.proofs.CounterLaws.{turn-sound, turn-off}
-use Rattle.theorems.proofs.SourceLaws.{raised-sound}
+use Rattle.theorems.proofs.SourceLaws.{ip-sound, hidden-sound}
+use Rattle.theorems.proofs.Fates.{by-source, by-fate}
 use Rattle.theorems.proofs.PortLaws.{caught-four, caught-off, caught-sound}
 use Rattle.theorems.proofs.PatternLaws.{pmf-sound, match-off}
 use Rattle.theorems.proofs.Stores.{cleared-ports, cleared-pattern, cleared-counter, base-ports, base-pattern, base-counter, base-source}
 
 -- ---- an event at a source; under RESET there is none
 event-base : (d : Device) (k : ℕ) (hides happens : Bool) → Base d → (Cleared d → happens ≡ false) → Base (eventAt d k hides happens)
-unfolding eventAt
 event-base d k hides happens h f =
-    by-test Base happens (withSource d k (raisedOf hides (sourceAt d k))) d
-    (λ t. base-source d k (raisedOf hides (sourceAt d k)) h (raised-sound hides (sourceAt d k)) (λ c. never (f c) t)) (λ _. h)
+    by-fate Base d k hides happens h (λ t. base-source d k (withIp (sourceAt d k) true) h (ip-sound (sourceAt d k)) (λ c. never (f c) t))
+    (λ t p. base-source d k (withHidden (sourceAt d k) true) h (λ _. hidden-sound (sourceAt d k) p) (λ c. never (f c) t))
 
 -- ---- (b), (c), (d): a counter's turn; under RESET it is not enabled
 turned-base : (d : Device) (i : ℕ) (r : Counted) → Base d
     → (CounterSound (counterEnabled d i) (counterAt d i) → CounterSound (counterEnabled d i) (r .counter))
     → (d .config ≡ 0 → r ≡ record { counter = counterAt d i; terminal = false }) → Base (turned d i r .device)
-unfolding turned
+unfolding turned eventAt
 turned-base d i r h f g =
     event-base (withCounter d i (r .counter)) (ofCounter i) true (r .terminal)
     (base-counter d i (r .counter) h f
@@ -120,15 +119,14 @@ pattern-base p before d l h =
 
 -- what goes by the configuration, the ports and the counters, or by the patterns, an event at a source leaves
 event-ports : (d : Device) (k : ℕ) (hides happens : Bool) (p : ℕ) → So (soundPortAt d p) → So (soundPortAt (eventAt d k hides happens) p)
-unfolding eventAt soundPortAt pathAt pinsAt valueAt portEnabled
-event-ports d k hides happens p h =
-    by-test (λ e. So (soundPortAt e p)) happens (withSource d k (raisedOf hides (sourceAt d k))) d (λ _. h) (λ _. h)
+unfolding soundPortAt pathAt pinsAt valueAt portEnabled
+event-ports d k hides happens p h = by-source (λ e. So (soundPortAt e p)) d k hides happens h (λ _. h)
 
 event-patterns : (d : Device) (k : ℕ) (hides happens : Bool) (p : ℕ) → So (pmfOnly (portEnabled d p) (patternAt d p))
     → So (pmfOnly (portEnabled (eventAt d k hides happens) p) (patternAt (eventAt d k hides happens) p))
-unfolding eventAt portEnabled
+unfolding portEnabled
 event-patterns d k hides happens p h =
-    by-test (λ (e : Device). So (pmfOnly (portEnabled e p) (patternAt e p))) happens (withSource d k (raisedOf hides (sourceAt d k))) d (λ _. h) (λ _. h)
+    by-source (λ (e : Device). So (pmfOnly (portEnabled e p) (patternAt e p))) d k hides happens h (λ _. h)
 
 module _ (p before : ℕ) (d : Device) where
   pattern-ports : (j : ℕ) → So (soundPortAt d j) → So (soundPortAt (patternTurn p before d) j)

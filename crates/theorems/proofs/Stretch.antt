@@ -15,7 +15,7 @@ use Rattle.basics.specs.Byte.{bit, num}
 use Rattle.basics.specs.Iterate.{iterate}
 use Rattle.rules.specs.Record.{counterAt, idle}
 use Rattle.rules.specs.With.{withCounters, withPhase}
-use Rattle.rules.specs.Report.{sums, reportsAdded, stepReport}
+use Rattle.rules.specs.Report.{sums, nums, reportsAdded, stepReport}
 use Rattle.rules.specs.Registers.{reset}
 use Rattle.rules.specs.Step.{stepOf, reported, clockOf}
 use Rattle.basics.proofs.Iterate.{iterate-add}
@@ -37,18 +37,18 @@ ran d r = record { device = d; report = r }
 phase-put : (d : Device) (v : Bool) → d .phase ≡ v → withPhase d v ≡ d
 phase-put d v p = λ i. withPhase d (sym p i)
 
--- a step that adds nothing to a report has no terminal
+-- a step that adds nothing to a report has no terminal, and none lost
 no-terminal : (n : ℕ) (v : Bool) → n + num v ≡ n → v ≡ false
 no-terminal n true e = absurd (omega arith)
 no-terminal n false e = refl
 
-nothing-added : (r : Report) (t : Stepped) → length (t .terminals) ≡ 3 → reportsAdded r (stepReport t) ≡ r → t .terminals ≡ false ∷ false ∷ false ∷ []
-unfolding reportsAdded sums
-nothing-added r t l e =
-    let t0 = no-terminal (getD (r .terminals) 0 0) _ (ap (λ (x : Report). getD (x .terminals) 0 0) e) in
-    let t1 = no-terminal (getD (r .terminals) 1 0) _ (ap (λ (x : Report). getD (x .terminals) 1 0) e) in
-    let t2 = no-terminal (getD (r .terminals) 2 0) _ (ap (λ (x : Report). getD (x .terminals) 2 0) e) in
-    three false (t .terminals) l ∙ (λ i. t0 i ∷ t1 i ∷ t2 i ∷ [])
+nothing-added : (ns : List ℕ) (vs : List Bool) → length vs ≡ 3 → sums ns (nums vs) ≡ ns → vs ≡ false ∷ false ∷ false ∷ []
+unfolding sums nums
+nothing-added ns vs l e =
+    let v0 = no-terminal (getD ns 0 0) _ (ap (λ (m : List ℕ). getD m 0 0) e) in
+    let v1 = no-terminal (getD ns 1 0) _ (ap (λ (m : List ℕ). getD m 1 0) e) in
+    let v2 = no-terminal (getD ns 2 0) _ (ap (λ (m : List ℕ). getD m 2 0) e) in
+    three false vs l ∙ (λ i. v0 i ∷ v1 i ∷ v2 i ∷ [])
 
 module _ (d : Device) (r : Report) (on : reset d ≡ false) (high : d .phase ≡ true) where
   abbrev stepped : Stepped
@@ -63,20 +63,22 @@ module _ (d : Device) (r : Report) (on : reset d ≡ false) (high : d .phase ≡
 
   -- a step that only leaves e
   two : (e : Device) → Whole r → e .phase ≡ true → stepped ≡ silent (low e) → iterate 2 clockOf (ran d r) ≡ ran e r
+  unfolding nums
   two e w h s =
       two-clocks ∙ ap (λ (t : Stepped). ran (withPhase (t .device) true) (reportsAdded r (stepReport t))) s
       ∙ ap (ran (withPhase e true)) (added-none r w) ∙ ap (λ (f : Device). ran f r) (phase-put e true h)
 
   -- and back
   back : (e : Device) → iterate 2 clockOf (ran d r) ≡ ran e r → stepped ≡ silent (low e)
-  unfolding stepOf
+  unfolding stepOf reportsAdded
   back e s =
       let g = sym two-clocks ∙ s in
       let f = frame-step true d (low d) in
       let v : stepped .device ≡ low e =
       sym (phase-put (stepped .device) false (f .phase)) ∙ ap (λ (x : Ran). withPhase (x .device) false) g in
-      let ts : stepped .terminals ≡ false ∷ false ∷ false ∷ [] = nothing-added r stepped refl (ap (λ (x : Ran). x .report) g) in
-      λ i. record { device = v i; terminals = ts i }
+      let ts = nothing-added (r .terminals) (stepped .terminals) refl (ap (λ (x : Ran). x .report .terminals) g) in
+      let ls = nothing-added (r .lost) (stepped .lost) refl (ap (λ (x : Ran). x .report .lost) g) in
+      λ i. record { device = v i; terminals = ts i; lost = ls i }
 
 -- ---- the stretch
 module _ (d : Device) (c : ℕ → Counter) (v : ℕ → Bool) (small : (i : ℕ) → i < 3 → c i .count < 65536) (r : Report) (w : Whole r)

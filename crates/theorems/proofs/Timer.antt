@@ -14,13 +14,14 @@ use Rattle.rules.specs.declared.Counted.{Counted}
 use Rattle.rules.specs.declared.Link.{Link}
 use Rattle.rules.specs.declared.Turned.{Turned}
 use Rattle.basics.specs.Byte.{bit}
-use Rattle.rules.specs.Record.{counterAt, idle}
+use Rattle.rules.specs.Record.{counterAt, sourceAt, idle, ofCounter}
 use Rattle.rules.specs.With.{withCount, withHalf, withPhase}
 use Rattle.rules.specs.Registers.{counterOn, counterEnabled, lc}
 use Rattle.rules.specs.PortData.{seenAt}
 use Rattle.rules.specs.Counters.{continuous, square, countInput, gateInput, lessOne, terminalOf, countOf, outputOf, unlinked, linkOf, reachOf, counts, turnOf}
 use Rattle.rules.specs.Step.{linesAt, turned, counterTurn, stepOf}
 use Rattle.theorems.specs.Free.{Free}
+use Rattle.theorems.proofs.Fates.{came-is}
 use Rattle.theorems.proofs.Frame.{frame-turn, turnAt, turn-counters, settled-counters}
 use Rattle.theorems.proofs.Lines.{lines-phase}
 
@@ -64,10 +65,6 @@ turn3 d = counterTurn unlinked true (linesAt d 2) (linesAt (low d) 2) 2 (turn2 d
 abbrev pub given : Device → ℕ → Link → Device → Counted
 given d i k e = turnAt k true (linesAt d i) (linesAt (low d) i) i e
 
-turn-counter : (k : Link) (timer : Bool) (were are i : ℕ) (d : Device) → counterTurn k timer were are i d .terminal ≡ turnAt k timer were are i d .terminal
-unfolding counterTurn turned
-turn-counter k timer were are i d = refl
-
 pub clock-counters : (d : Device) → stepOf true d (low d) .device .counters
     ≡ set (set (set (d .counters) 0 (given d 0 unlinked (low d) .counter)) 1 (given d 1 (link2 d) (turn1 d .device) .counter)) 2 (given d 2 unlinked (turn2 d .device) .counter)
 unfolding stepOf
@@ -82,7 +79,12 @@ clock-counters d =
 pub clock-terminals : (d : Device) → stepOf true d (low d) .terminals
     ≡ given d 0 unlinked (low d) .terminal ∷ given d 1 (link2 d) (turn1 d .device) .terminal ∷ given d 2 unlinked (turn2 d .device) .terminal ∷ []
 unfolding stepOf counterTurn turned
-clock-terminals d = refl
+clock-terminals d =
+    λ i.
+    came-is true (given d 0 unlinked (low d) .terminal) (sourceAt d (ofCounter 0)) i
+    ∷ came-is true (given d 1 (link2 d) (turn1 d .device) .terminal) (sourceAt (turn1 d .device) (ofCounter 1)) i
+    ∷ came-is true (given d 2 unlinked (turn2 d .device) .terminal) (sourceAt (turn2 d .device) (ofCounter 2)) i
+    ∷ []
 
 -- each turn finds its counter as it was
 pub second-there : (d : Device) → counterAt (turn1 d .device) 1 ≡ counterAt d 1

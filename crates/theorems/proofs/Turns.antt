@@ -18,7 +18,8 @@ use Rattle.rules.specs.With.{withCounters}
 use Rattle.rules.specs.Registers.{counterOn, counterEnabled, lc}
 use Rattle.rules.specs.PortData.{seenAt}
 use Rattle.rules.specs.Counters.{outputOf, unlinked, linkOf, reachOf, turnOf}
-use Rattle.rules.specs.Step.{linesAt, eventAt, turned, counterTurn, settled, stepOf}
+use Rattle.rules.specs.Interrupts.{fateOf, afterFate, came, wasLost}
+use Rattle.rules.specs.Step.{linesAt, turned, counterTurn, settled, stepOf}
 use Rattle.theorems.specs.Stretch.{lowerOf}
 use Rattle.theorems.proofs.Frame.{frame-turn, turn-counters}
 use Rattle.theorems.proofs.Lines.{lines-phase}
@@ -32,7 +33,7 @@ row c = c 0 ∷ c 1 ∷ c 2 ∷ []
 
 -- a step without a terminal
 abbrev pub silent : Device → Stepped
-silent d = record { device = d; terminals = false ∷ false ∷ false ∷ [] }
+silent d = record { device = d; terminals = false ∷ false ∷ false ∷ []; lost = false ∷ false ∷ false ∷ [] }
 
 -- the turn of a counter c at place i in a timer clock of d
 abbrev turnIn : Device → ℕ → Link → Counter → Counted
@@ -60,19 +61,28 @@ module _ (d : Device) (c e : ℕ → Counter) where
       let t = counterTurn unlinked true (linesAt whole 2) (linesAt (low whole) 2) 2 (s .device) in
       record {
         device = settled (seenAt whole 0) (seenAt whole 1) (t .device);
-        terminals = b .terminal ∷ s .terminal ∷ t .terminal ∷ [];
+        terminals = came (b .fate) ∷ came (s .fate) ∷ came (t .fate) ∷ [];
+        lost = wasLost (b .fate) ∷ wasLost (s .fate) ∷ wasLost (t .fate) ∷ [];
       }
 
   abbrev rest1 : Counted → Stepped
   rest1 r =
       let s = turned (low (withCounters d (e 0 ∷ c 1 ∷ c 2 ∷ []))) 1 r in
       let t = counterTurn unlinked true (linesAt whole 2) (linesAt (low whole) 2) 2 (s .device) in
-      record { device = settled (seenAt whole 0) (seenAt whole 1) (t .device); terminals = false ∷ s .terminal ∷ t .terminal ∷ [] }
+      record {
+        device = settled (seenAt whole 0) (seenAt whole 1) (t .device);
+        terminals = false ∷ came (s .fate) ∷ came (t .fate) ∷ [];
+        lost = false ∷ wasLost (s .fate) ∷ wasLost (t .fate) ∷ [];
+      }
 
   abbrev rest2 : Counted → Stepped
   rest2 r =
       let t = turned (low (withCounters d (e 0 ∷ e 1 ∷ c 2 ∷ []))) 2 r in
-      record { device = settled (seenAt whole 0) (seenAt whole 1) (t .device); terminals = false ∷ false ∷ t .terminal ∷ [] }
+      record {
+        device = settled (seenAt whole 0) (seenAt whole 1) (t .device);
+        terminals = false ∷ false ∷ came (t .fate) ∷ [];
+        lost = false ∷ false ∷ wasLost (t .fate) ∷ [];
+      }
 
   -- the lines after (a) are those before
   still : (i : ℕ) (k : Link) (b : Counter)
@@ -80,7 +90,7 @@ module _ (d : Device) (c e : ℕ → Counter) where
   still i k b = ap (λ (w : ℕ). turnOf (counterEnabled d i) (reachOf b k true (linesAt whole i) w) b) (lines-phase whole false i)
 
   by-turns : Turns → stepOf true whole (low whole) ≡ silent (settled (seenAt whole 0) (seenAt whole 1) (low (withCounters d (row e))))
-  unfolding stepOf counterTurn turned eventAt
+  unfolding stepOf counterTurn turned fateOf afterFate came wasLost
   by-turns t =
       ap rest0 (still 0 unlinked (c 0) ∙ t .first) ∙ ap rest1 (still 1 link (c 1) ∙ t .second) ∙ ap rest2 (still 2 unlinked (c 2) ∙ t .third)
 

@@ -1,10 +1,12 @@
--- Paper 01, "Counters", its last paragraph: a free-running counter over T n, by division.
+-- Paper 01, "Counters", its last paragraph: a free-running counter over T n, by division; and paper 02, W-202: its lost terminals.
 -- Assumes nothing.
 use Prim.Native.Nat.{ℕ, _+_, _-_, _/_, _%_}
 use mathlib.Core.Path.{_≡_}
 use mathlib.Core.Bool.{true, false, not, _||_, cond}
 use lib.Dec.{eqb, ltb}
 use Rattle.rules.specs.declared.Device.{Device}
+use Rattle.rules.specs.declared.Source.{Source}
+use Rattle.basics.specs.Signs.{if_then_else_}
 use Rattle.basics.specs.Byte.{bit, num}
 use Rattle.rules.specs.Record.{counterAt}
 use Rattle.rules.specs.Registers.{counterEnabled, lc}
@@ -39,3 +41,12 @@ terminalsAfter c t k = cond (ltb k c) 0 (1 + (k - c) / t)
 -- "and count t less the remainder of (k - c) by t."
 unfoldable pub countAfter : ℕ → ℕ → ℕ → ℕ
 countAfter c t k = cond (ltb k c) (c - k) (t - (k - c) % t)
+
+-- ---- "lost terminals for counters 1 to 3" (paper 02, W-202): the terminals less the free places of the counter's source, not under 0
+-- (docs/DECISIONS.md, V10). Two places are free with IP 0, one with IP 1 alone, none with ERR or the hidden error.
+unfoldable pub freePlaces : Source → ℕ
+freePlaces s = if not (s .ip) then 2 else if s .err || s .hidden then 0 else 1
+
+-- how many of n terminals the source loses
+unfoldable pub lostAfter : Source → ℕ → ℕ
+lostAfter s n = n - freePlaces s

@@ -10,7 +10,7 @@ use Rattle.clocks.proofs.far.Tie as tie
 
 -- the run has three counters and a whole report
 sizes : (c : tie.Start) → (length (c .args .s .device .counters) ≡ 3) × Whole (c .args .s .report)
-sizes c = (search of-map, record { terminals = search needs })
+sizes c = (search of-map, record { terminals = search needs; lost = search needs })
 
 element-copy-out-x : tie.Need-element-copy-out-x
 element-copy-out-x c = search needs

@@ -8,7 +8,7 @@ use Rattle.clocks.proofs.skipped.Tie as tie
 
 -- the run's report is whole
 full : (c : tie.Start) → Whole (c .args .c .ran .report)
-full c = record { terminals = search needs }
+full c = record { terminals = search needs; lost = search needs }
 
 div-q : tie.Need-div-q
 div-q c = search needs

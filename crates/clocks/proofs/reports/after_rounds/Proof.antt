@@ -1,49 +1,15 @@
-use lib.Dec.{lit<}
 use borrow.Author.Needs.{needs}
 use Rattle.clocks.proofs.reports.after_rounds.Statement.{statement}
 use Rattle.clocks.proofs.reports.after_rounds.Tie as tie
 
-array-read-repeated : tie.Need-array-read-repeated
-array-read-repeated c = search needs
+rounds-requires : tie.Need-rounds-requires
+rounds-requires c κs = search needs
 
-array-read-repeated-2 : tie.Need-array-read-repeated-2
-array-read-repeated-2 c = search needs
-
-repeated-requires : tie.Need-repeated-requires
-repeated-requires c κs = c .before .before .pre .terminals 0 (lit< tt)
-
-array-read-repeated-3 : tie.Need-array-read-repeated-3
-array-read-repeated-3 c = search needs
-
-array-read-repeated-4 : tie.Need-array-read-repeated-4
-array-read-repeated-4 c = search needs
-
-repeated-requires-2 : tie.Need-repeated-requires-2
-repeated-requires-2 c κs = c .before .before .before .pre .terminals 1 (lit< tt)
-
-array-read-repeated-5 : tie.Need-array-read-repeated-5
-array-read-repeated-5 c = search needs
-
-array-read-repeated-6 : tie.Need-array-read-repeated-6
-array-read-repeated-6 c = search needs
-
-repeated-requires-3 : tie.Need-repeated-requires-3
-repeated-requires-3 c κs = c .before .before .before .before .pre .terminals 2 (lit< tt)
+rounds-requires-2 : tie.Need-rounds-requires-2
+rounds-requires-2 c κs = search needs
 
 returns : tie.Need-returns
-returns c = simp (c .before .before .repeated .ensures, c .before .repeated2 .ensures, c .repeated3 .ensures)
+returns c = simp (c .before .rounds .ensures, c .rounds2 .ensures)
 
 pub after-rounds-spec : {M : Type 1} → statement M
-after-rounds-spec =
-    tie.close
-    (tie.spec
-    array-read-repeated
-    array-read-repeated-2
-    repeated-requires
-    array-read-repeated-3
-    array-read-repeated-4
-    repeated-requires-2
-    array-read-repeated-5
-    array-read-repeated-6
-    repeated-requires-3
-    returns)
+after-rounds-spec = tie.close (tie.spec rounds-requires rounds-requires-2 returns)

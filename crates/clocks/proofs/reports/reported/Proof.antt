@@ -1,52 +1,18 @@
-use native.Mathlib.Omega.{arith}
-use Rattle.rules.specs.Report.{sums, reportsAdded}
+use Rattle.rules.specs.Report.{reportsAdded}
 use Rattle.rules.specs.Step.{reported}
 use borrow.Author.Needs.{needs}
 use Rattle.clocks.proofs.reports.reported.Statement.{statement}
 use Rattle.clocks.proofs.reports.reported.Tie as tie
 
-array-read-add : tie.Need-array-read-add
-array-read-add c = search needs
+added-requires : tie.Need-added-requires
+added-requires c κs = search needs
 
-array-read-add-2 : tie.Need-array-read-add-2
-array-read-add-2 c = search needs
-
-add-requires : tie.Need-add-requires
-add-requires c κs = omega (arith, c .before .before .before .pre .terminals 0)
-
-array-read-add-3 : tie.Need-array-read-add-3
-array-read-add-3 c = search needs
-
-array-read-add-4 : tie.Need-array-read-add-4
-array-read-add-4 c = search needs
-
-add-requires-2 : tie.Need-add-requires-2
-add-requires-2 c κs = omega (arith, c .before .before .before .before .pre .terminals 1)
-
-array-read-add-5 : tie.Need-array-read-add-5
-array-read-add-5 c = search needs
-
-array-read-add-6 : tie.Need-array-read-add-6
-array-read-add-6 c = search needs
-
-add-requires-3 : tie.Need-add-requires-3
-add-requires-3 c κs = omega (arith, c .before .before .before .before .before .pre .terminals 2)
+added-requires-2 : tie.Need-added-requires-2
+added-requires-2 c κs = search needs
 
 returns : tie.Need-returns
-unfolding reported reportsAdded sums
-returns c = simp (c .before .before .add .ensures, c .before .add2 .ensures, c .add3 .ensures)
+unfolding reported reportsAdded
+returns c = simp (c .before .added .ensures, c .added2 .ensures)
 
 pub reported-spec : {M : Type 1} → statement M
-reported-spec =
-    tie.close
-    (tie.spec
-    array-read-add
-    array-read-add-2
-    add-requires
-    array-read-add-3
-    array-read-add-4
-    add-requires-2
-    array-read-add-5
-    array-read-add-6
-    add-requires-3
-    returns)
+reported-spec = tie.close (tie.spec added-requires added-requires-2 returns)

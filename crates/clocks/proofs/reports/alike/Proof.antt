@@ -1,0 +1,37 @@
+use Rattle.clocks.proofs.Leaping.{same-counts}
+use borrow.Author.Needs.{needs}
+use Rattle.clocks.proofs.reports.alike.Statement.{statement}
+use Rattle.clocks.proofs.reports.alike.Tie as tie
+
+array-read-result : tie.Need-array-read-result
+array-read-result c = search needs
+
+array-read-result-2 : tie.Need-array-read-result-2
+array-read-result-2 c = search needs
+
+array-read-result-3 : tie.Need-array-read-result-3
+array-read-result-3 c = search needs
+
+array-read-result-4 : tie.Need-array-read-result-4
+array-read-result-4 c = search needs
+
+array-read-result-5 : tie.Need-array-read-result-5
+array-read-result-5 c = search needs
+
+array-read-result-6 : tie.Need-array-read-result-6
+array-read-result-6 c = search needs
+
+returns : tie.Need-returns
+returns c = same-counts (c .args .t1) (c .args .t2) (search needs) (search needs)
+
+pub alike-spec : {M : Type 1} → statement M
+alike-spec =
+    tie.close
+    (tie.spec
+    array-read-result
+    array-read-result-2
+    array-read-result-3
+    array-read-result-4
+    array-read-result-5
+    array-read-result-6
+    returns)
