@@ -2,7 +2,7 @@
 -- Assumes nothing.
 use Prim.Native.Nat.{ℕ}
 use mathlib.Core.Path.{_≡_, refl, _∙_}
-use mathlib.Core.Bool.{true, false}
+use mathlib.Core.Bool.{Bool, true, false, and-false}
 use borrow.Author.Tests.{eqb-true}
 use lib.Dec.{eqb}
 use mathlib.Core.List.{List, [], _∷_}
@@ -14,10 +14,11 @@ use Rattle.rules.specs.declared.Pattern.{Pattern}
 use Rattle.rules.specs.declared.Device.{Device}
 use Rattle.basics.specs.Byte.{bit, byteIn}
 use Rattle.rules.specs.With.{device, withHidden, withCount, withHalf, withOutside, withCatcher, withIoe, withPmf, withPatterns, withCounters, withSources}
-use Rattle.rules.specs.Record.{vectorAt, portAt, patternAt, counterAt, sourceAt}
+use Rattle.rules.specs.Record.{vacant, vectorAt, portAt, patternAt, counterAt, sourceAt}
 use Rattle.rules.specs.Registers.{kindOf, kindIn, portKind, statusOf, portCommandOf, counterCommandOf}
+use Rattle.rules.specs.Handshakes.{handshakes, irfOf, irfAt}
 use Rattle.rules.specs.Access.{portCommand, counterCommand, readOf}
-use Rattle.bodies.specs.Written.{savedByte, registersFrom, registersBody}
+use Rattle.bodies.specs.Written.{Unheld, savedByte, registersFrom, registersBody}
 use Rattle.bodies.specs.Taken.{byteAt, Bytes, wordOf, sourceIn, patternIn, counterIn, registersIn, portClear, counterClear, registersClear}
 use Rattle.bodies.proofs.Lists.{then, ap₃, elements}
 use Rattle.bodies.proofs.Bytes.{port-ius, port-ie, port-ip, port-err, port-pmf, port-ioe, port-clear, port-made}
@@ -39,22 +40,22 @@ abbrev pub registersTold : Device → Device
 registersTold d =
     device (d .master) (d .config) (vectorAt d 0 ∷ vectorAt d 1 ∷ vectorAt d 2 ∷ [])
     (pinless (portAt d 0) ∷ pinless (portAt d 1) ∷ pinless (portAt d 2) ∷ []) (patternAt d 0 ∷ patternAt d 1 ∷ [])
-    (countless (counterAt d 0) ∷ countless (counterAt d 1) ∷ countless (counterAt d 2) ∷ [])
+    (vacant ∷ vacant ∷ []) (countless (counterAt d 0) ∷ countless (counterAt d 1) ∷ countless (counterAt d 2) ∷ [])
     (unhidden (sourceAt d 0) ∷ unhidden (sourceAt d 1) ∷ unhidden (sourceAt d 2) ∷ unhidden (sourceAt d 3) ∷ unhidden (sourceAt d 4) ∷ [])
     false false
 
 -- ---- the bytes of one source, pattern and counter, read back
-port-source : (s : Source) (q : Pattern) → sourceIn (portCommandOf s q) ≡ unhidden s
+port-source : (s : Source) (q : Pattern) (f : Bool) → sourceIn (portCommandOf s q f) ≡ unhidden s
 unfolding statusOf
-port-source s q = simp (port-ius, port-ie, port-ip, port-err)
+port-source s q f = simp (port-ius, port-ie, port-ip, port-err)
 
 counter-source : (s : Source) (c : Counter) → sourceIn (counterCommandOf s c) ≡ unhidden s
 unfolding statusOf
 counter-source s c = simp (counter-ius, counter-ie, counter-ip, counter-err)
 
-pattern-read : (s : Source) (q : Pattern) → withPmf (withIoe q (bit (portCommandOf s q) 0)) (bit (portCommandOf s q) 1) ≡ q
+pattern-read : (s : Source) (q : Pattern) (f : Bool) → withPmf (withIoe q (bit (portCommandOf s q f) 0)) (bit (portCommandOf s q f) 1) ≡ q
 unfolding statusOf
-pattern-read s q = simp (port-ioe, port-pmf)
+pattern-read s q f = simp (port-ioe, port-pmf)
 
 counter-read : (s : Source) (c : Counter) →
     record {
@@ -76,12 +77,17 @@ unfolding registersIn registersBody registersFrom savedByte readOf kindOf kindIn
 registers-read d =
     ap₃ (λ (ps : List Pattern) (cs : List Counter) (ss : List Source).
     withSources (withCounters (withPatterns (registersTold d) ps) cs) ss)
-    (then (pattern-read (sourceAt d 1) (patternAt d 0)) (then (pattern-read (sourceAt d 3) (patternAt d 1)) refl))
+    (then (pattern-read (sourceAt d 1) (patternAt d 0) (irfAt d 0)) (then (pattern-read (sourceAt d 3) (patternAt d 1) (irfAt d 1)) refl))
     (then (counter-read (sourceAt d 4) (counterAt d 0)) (then (counter-read (sourceAt d 2) (counterAt d 1))
     (then (counter-read (sourceAt d 0) (counterAt d 2)) refl)))
-    (then (counter-source (sourceAt d 0) (counterAt d 2)) (then (port-source (sourceAt d 1) (patternAt d 0))
-    (then (counter-source (sourceAt d 2) (counterAt d 1)) (then (port-source (sourceAt d 3) (patternAt d 1))
+    (then (counter-source (sourceAt d 0) (counterAt d 2)) (then (port-source (sourceAt d 1) (patternAt d 0) (irfAt d 0))
+    (then (counter-source (sourceAt d 2) (counterAt d 1)) (then (port-source (sourceAt d 3) (patternAt d 1) (irfAt d 1))
     (then (counter-source (sourceAt d 4) (counterAt d 0)) refl)))))
+
+-- a port that holds nothing has IRF 0
+none-full : (q : Pattern) → irfOf q vacant ≡ false
+unfolding irfOf
+none-full q = and-false (handshakes q)
 
 pub registers-written : (b : List ℕ) → length b ≡ 48 → Bytes b → registersClear b ≡ true → registersBody (registersIn b) ≡ b
 unfolding registersIn registersBody registersFrom savedByte readOf kindOf kindIn portKind portCommand counterCommand statusOf patternIn counterIn
@@ -91,6 +97,7 @@ registers-written b n h c =
     (counterClear (byteAt b 0x0A)) (counterClear (byteAt b 0x0B)) (counterClear (byteAt b 0x0C))
     (eqb (byteAt b 0x1F) 0) c in
     (simp (
+      none-full,
       port-made (byteAt b 0x08) (h 0x08) (k .0),
       port-made (byteAt b 0x09) (h 0x09) (k .1),
       counter-made (byteAt b 0x0A) (h 0x0A) (k .2),
@@ -113,6 +120,6 @@ registers-written b n h c =
     ∙ elements b 48 n
 
 -- a written body is clear
-pub registers-clear : (d : Device) → registersClear (registersBody d) ≡ true
+pub registers-clear : (d : Device) → Unheld d → registersClear (registersBody d) ≡ true
 unfolding registersBody registersFrom savedByte readOf kindOf kindIn portKind portCommand counterCommand statusOf
-registers-clear d = simp (port-clear, counter-clear)
+registers-clear d e = simp (e, none-full, port-clear, counter-clear)

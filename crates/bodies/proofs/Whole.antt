@@ -12,11 +12,12 @@ use Rattle.rules.specs.declared.Counter.{Counter}
 use Rattle.rules.specs.declared.Source.{Source}
 use Rattle.rules.specs.declared.Port.{Port}
 use Rattle.rules.specs.declared.Pattern.{Pattern}
+use Rattle.rules.specs.declared.Transfer.{Transfer}
 use Rattle.rules.specs.declared.Device.{Device}
-use Rattle.rules.specs.With.{device, withCounters, withSources}
+use Rattle.rules.specs.With.{device, withTransfers, withCounters, withSources}
 use Rattle.rules.specs.Record.{Shaped, bare, blank, idle, quiet}
 use Rattle.bodies.specs.Layout.{Entry, sizesFrom, layoutOf, layoutIn, contentsLen, offsetOf, sizeOf, lengthOf, contentsOf, part, bodyIn}
-use Rattle.bodies.specs.Written.{registersFrom, registersBody, countsBody, pinsBody, linesBody, imageOf}
+use Rattle.bodies.specs.Written.{Unheld, registersFrom, registersBody, countsBody, pinsBody, linesBody, imageOf}
 use Rattle.bodies.specs.Taken.{Bytes, registersIn, countsIn, pinsIn, linesIn, registersClear, countsClear, pinsClear, linesClear, recordIn, unusedClear, deviceIn, clearIn}
 use Rattle.bodies.proofs.Bytes.{fourfold}
 use Rattle.bodies.proofs.Lists.{ap₃}
@@ -56,39 +57,39 @@ pub body-4 : (d : Device) → bodyIn (layoutOf d) 4 (imageOf d) ≡ linesBody d
 unfolding imageOf registersBody registersFrom countsBody pinsBody linesBody
 body-4 d = refl
 
-pub image-clear : (d : Device) → clearIn (imageOf d) ≡ true
+pub image-clear : (d : Device) → Unheld d → clearIn (imageOf d) ≡ true
 unfolding clearIn unusedClear
-image-clear d =
+image-clear d e =
     ap₂ _&&_
     (ap₃ (λ (a b c : Bool). a && b && c)
-    (ap registersClear (body-1 d) ∙ registers-clear d) (ap countsClear (body-2 d) ∙ counts-clear d) (ap pinsClear (body-3 d) ∙ pins-clear d))
+    (ap registersClear (body-1 d) ∙ registers-clear d e) (ap countsClear (body-2 d) ∙ counts-clear d) (ap pinsClear (body-3 d) ∙ pins-clear d))
     (ap linesClear (body-4 d) ∙ lines-clear d)
 
--- ---- the four bodies tell the whole record
-all-told : (d : Device) → Shaped d → linesTold (pinsTold (countsTold (registersTold d) d) d) d ≡ d
-all-told d f =
+-- ---- the four bodies tell the whole of a record that holds nothing of a handshake
+all-told : (d : Device) → Shaped d → Unheld d → linesTold (pinsTold (countsTold (registersTold d) d) d) d ≡ d
+all-told d f e =
     let told = linesTold (pinsTold (countsTold (registersTold d) d) d) d in
     ap₃ (λ (vs : List ℕ) (ps : List Port) (qs : List Pattern).
-    device (d .master) (d .config) vs ps qs (told .counters) (told .sources) (d .iei) (d .phase))
+    device (d .master) (d .config) vs ps qs (told .transfers) (told .counters) (told .sources) (d .iei) (d .phase))
     (sym (three 0 (d .vectors) (f .vectors))) (sym (three (bare 0) (d .ports) (f .ports))) (sym (two blank (d .patterns) (f .patterns)))
-    ∙ ap₂ (λ (cs : List Counter) (ss : List Source). withSources (withCounters d cs) ss)
-    (sym (three idle (d .counters) (f .counters))) (sym (five quiet (d .sources) (f .sources)))
+    ∙ ap₃ (λ (ts : List Transfer) (cs : List Counter) (ss : List Source). withSources (withCounters (withTransfers d ts) cs) ss)
+    (sym e) (sym (three idle (d .counters) (f .counters))) (sym (five quiet (d .sources) (f .sources)))
 
 -- what was written is read back
-pub read-back : (d : Device) → Shaped d → deviceIn (imageOf d) ≡ d
+pub read-back : (d : Device) → Shaped d → Unheld d → deviceIn (imageOf d) ≡ d
 unfolding deviceIn recordIn
-read-back d f =
+read-back d f e =
     (simp (body-1 d, body-2 d, body-3 d, body-4 d))
-    ∙ ap (λ (e : Device). linesIn (pinsIn (countsIn e (countsBody d)) (pinsBody d)) (linesBody d)) (registers-read d)
-    ∙ ap (λ (e : Device). linesIn (pinsIn e (pinsBody d)) (linesBody d)) (counts-read (registersTold d) d)
-    ∙ ap (λ (e : Device). linesIn e (linesBody d)) (pins-read (countsTold (registersTold d) d) d)
+    ∙ ap (λ (r : Device). linesIn (pinsIn (countsIn r (countsBody d)) (pinsBody d)) (linesBody d)) (registers-read d)
+    ∙ ap (λ (r : Device). linesIn (pinsIn r (pinsBody d)) (linesBody d)) (counts-read (registersTold d) d)
+    ∙ ap (λ (r : Device). linesIn r (linesBody d)) (pins-read (countsTold (registersTold d) d) d)
     ∙ lines-read (pinsTold (countsTold (registersTold d) d) d) d
-    ∙ all-told d f
+    ∙ all-told d f e
 
 -- a record that was read has the lengths of the struct
 pub shaped : (s : List ℕ) → Shaped (deviceIn s)
 unfolding deviceIn recordIn linesIn pinsIn countsIn registersIn
-shaped s = record { vectors = refl; ports = refl; patterns = refl; counters = refl; sources = refl }
+shaped s = record { vectors = refl; ports = refl; patterns = refl; transfers = refl; counters = refl; sources = refl }
 
 -- ---- parts of a list of bytes
 bytes-take : (n : ℕ) (s : List ℕ) → Bytes s → Bytes (take n s)

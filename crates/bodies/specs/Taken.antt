@@ -13,7 +13,7 @@ use Rattle.rules.specs.declared.Counter.{Counter}
 use Rattle.rules.specs.declared.Port.{Port}
 use Rattle.rules.specs.declared.Pattern.{Pattern}
 use Rattle.rules.specs.declared.Device.{Device}
-use Rattle.rules.specs.Record.{bare, quiet, counterAt}
+use Rattle.rules.specs.Record.{bare, vacant, quiet, counterAt}
 use Rattle.rules.specs.With.{withHidden, withCount, withHalf, withOutside, withCatcher, withPorts, withCounters, withSources, withIei, withPhase}
 use Rattle.bodies.specs.Layout.{layoutIn, bodyIn}
 
@@ -88,6 +88,7 @@ registersIn b =
       vectors = byteAt b 0x02 ∷ byteAt b 0x03 ∷ byteAt b 0x04 ∷ [];
       ports = portsIn b;
       patterns = patternsIn b;
+      transfers = vacant ∷ vacant ∷ [];
       counters = countersIn b;
       sources = sourcesIn b;
       iei = false;
@@ -135,7 +136,7 @@ unfoldable pub linesIn : Device → List ℕ → Device
 linesIn d b = withPhase (withIei d (bit (byteAt b 0) 0)) (bit (byteAt b 1) 0)
 
 -- ---- "unused bits 0": those that no field of the record holds. Port C's upper four bits are the record's own matter.
--- "Port: .. D3-D2 read 0"
+-- "Port: .. D3-D2 read 0". Paper 02, W-203: D2 is IRF, and only a port with handshake has it; "The image waits for W-205."
 abbrev pub portClear : ℕ → Bool
 portClear x = not (bit x 3) && not (bit x 2)
 

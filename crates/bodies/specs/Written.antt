@@ -1,4 +1,5 @@
--- Paper 01, "The image": the four bodies of a record, byte for byte, and its image. Every field of the record stands in one of them:
+-- Paper 01, "The image": the four bodies of a record, byte for byte, and its image. Every field of the record but one stands in one of
+-- them:
 --
 --   | field                                               | body                                   |
 --   |-----------------------------------------------------|----------------------------------------|
@@ -8,6 +9,7 @@
 --   | ports: outside, catcher                             | 3                                      |
 --   | patterns: mode, handshake, polarity, transition, mask | 1: 20, 21, 25-27 A, 28, 29, 2D-2F B  |
 --   | patterns: ioe, pmf                                  | 1: 08, 09                              |
+--   | transfers                                           | none: "The image waits for W-205"      |
 --   | counters: mode, constant, frozen                    | 1: 1C-1E, 16-1B, 10-15                 |
 --   | counters: rcc, gcb, cip                             | 1: 0A-0C                               |
 --   | counters: count, half                               | 2                                      |
@@ -18,15 +20,20 @@
 -- Assumes nothing.
 use Prim.Native.Nat.{ℕ, zero, suc, _+_, _-_, _/_, _%_}
 use mathlib.Core.Bool.{true, false}
+use mathlib.Core.Path.{_≡_}
 use mathlib.Core.List.{List, [], _∷_, _++_}
 use Rattle.basics.specs.Signs.{if_then_else_, _==_, within}
 use Rattle.rules.specs.declared.Device.{Device}
 use Rattle.basics.specs.Byte.{byteIn}
-use Rattle.rules.specs.Record.{registerCount, vectorAt, portAt, counterAt, sourceAt, ofPort, ofCounter}
+use Rattle.rules.specs.Record.{registerCount, vacant, vectorAt, portAt, counterAt, sourceAt, ofPort, ofCounter}
 use Rattle.rules.specs.Registers.{kindOf}
 use Rattle.rules.specs.Access.{readOf}
 use Rattle.bodies.specs.declared.Bodies.{Bodies}
 use Rattle.bodies.specs.Layout.{Entry, layoutOf, contentsOf}
+
+-- the records that the bodies tell whole: no port holds a byte of a handshake, or has a transfer or a pair of reads under way
+abbrev pub Unheld : Device → Type 0
+Unheld d = d .transfers ≡ vacant ∷ vacant ∷ []
 
 -- the values of f at n places from i
 abbrev pub listed : (ℕ → ℕ) → ℕ → ℕ → List ℕ

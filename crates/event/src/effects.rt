@@ -45,7 +45,7 @@ fn write_effect(d: Device, a: u32, b: u8) -> Effect
     if is_held(d, a) {
         return effect(d, 0);
     }
-    let s = step::step(false, d, write_access::write(d, a, b));
+    let s = step::step(false, d, moves::moves(d, write_access::write(d, a, b)));
     effect(s.device, 0)
 }
 
@@ -76,7 +76,7 @@ fn with_outside(d: Device, a: u8, b: u8, c: u8) -> Device
 fn pins_effect(d: Device, a: u8, b: u8, c: u8) -> Effect
     ensures { λ r. ⌜ r ≡ pinsEffect d a b c ⌝ }
 {
-    let s = step::step(false, d, with_outside(d, a, b, c));
+    let s = step::step(false, d, moves::moves(d, with_outside(d, a, b, c)));
     effect(s.device, 0)
 }
 

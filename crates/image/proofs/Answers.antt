@@ -11,34 +11,33 @@ use lib.ListN.{length, take, drop, length-append, length-drop}
 use lib.Seq.{take-at, drop-at}
 use Rattle.rules.specs.declared.Device.{Device}
 use Rattle.rules.specs.Record.{freshOf}
-use Rattle.rules.specs.Sound.{soundOf}
 use Rattle.bodies.specs.Layout.{layoutOf, layoutIn, lengthOf, contentsOf}
 use Rattle.bodies.specs.Written.{imageOf}
 use Rattle.bodies.specs.Taken.{deviceIn, clearIn}
 use Rattle.basics.proofs.Tests.{both}
 use Rattle.bodies.proofs.Whole.{image-length}
-use Rattle.image.specs.Image.{saveCode, savedOf, restoredOf}
+use Rattle.image.specs.Image.{savable, saveCode, savedOf, restoredOf}
 use Rattle.image.proofs.Agree.{alike}
-use Rattle.image.proofs.Codes.{restores, long, table, firstBytes, soundBodies, restore-0, save-0}
+use Rattle.image.proofs.Codes.{restores, long, table, firstBytes, goodBodies, restore-0, save-0}
 
 -- ---- restore
 pub record Accepted (s : List ℕ) : Type 0 where
   pub long : length s ≡ lengthOf (layoutIn s)
   pub table : firstBytes s ≡ contentsOf (layoutIn s)
   pub clear : clearIn s ≡ true
-  pub sound : soundOf (deviceIn s) ≡ true
+  pub saves : savable (deviceIn s) ≡ true
   pub is : restoredOf s .device ≡ deviceIn s
 
 pub accepted : (s : List ℕ) → restoredOf s .code ≡ 0 → Accepted s
 unfolding restoredOf
 accepted s h =
     let p = restore-0 s .0 h in
-    let k = both (clearIn s) (soundOf (deviceIn s)) (p .2) in
+    let k = both (clearIn s) (savable (deviceIn s)) (p .2) in
     record {
       long = p .0;
       table = p .1;
       clear = k .0;
-      sound = k .1;
+      saves = k .1;
       is = simp (eq-eqb _ _ (p .0), alike _ _ (p .1), k .0, k .1);
     }
 
@@ -50,20 +49,20 @@ failed false t b d h = refl
 
 pub fresh : (s : List ℕ) → (restoredOf s .code ≡ 0 → ⊥) → restoredOf s .device ≡ freshOf
 unfolding restoredOf
-fresh s h = failed (long s) (table s) (soundBodies s) (deviceIn s) h
+fresh s h = failed (long s) (table s) (goodBodies s) (deviceIn s) h
 
 -- ---- save
-pub saved-sound : (d : Device) (n : ℕ) → saveCode d n ≡ 0 → soundOf d ≡ true
-saved-sound d n h = save-0 d n .0 h .0
+pub saved-savable : (d : Device) (n : ℕ) → saveCode d n ≡ 0 → savable d ≡ true
+saved-savable d n h = save-0 d n .0 h .0
 
-not-sound : (s : Bool) → (_≡_ {A = ℕ} (cond (not s) 9 0) 0 → ⊥) → s ≡ false
-not-sound true h = absurd (h refl)
-not-sound false h = refl
+not-savable : (s : Bool) → (_≡_ {A = ℕ} (cond (not s) 9 0) 0 → ⊥) → s ≡ false
+not-savable true h = absurd (h refl)
+not-savable false h = refl
 
--- only soundness refuses where the buffer is long enough
-pub unsound : (d : Device) → (saveCode d (lengthOf (layoutOf d)) ≡ 0 → ⊥) → soundOf d ≡ false
+-- only the record is refused where the buffer is long enough
+pub unsavable : (d : Device) → (saveCode d (lengthOf (layoutOf d)) ≡ 0 → ⊥) → savable d ≡ false
 unfolding saveCode
-unsound d h = not-sound (soundOf d) h
+unsavable d h = not-savable (savable d) h
 
 pub saved-image : (d : Device) (e : List ℕ) → saveCode d (length e) ≡ 0 → take (lengthOf (layoutOf d)) (savedOf d e) ≡ imageOf d
 unfolding savedOf

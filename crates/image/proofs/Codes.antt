@@ -1,7 +1,8 @@
--- When save and restore give each of their codes, both ways: paper 01, "Events and their answers", codes 7, 8 and 9.
+-- When save and restore give each of their codes, both ways: paper 01, "Events and their answers", codes 7, 8 and 9; and paper 02,
+-- W-203: 9 with a port with handshake too.
 -- Assumes nothing.
 use Prim.Native.Nat.{ℕ, _<_, _≤_}
-use mathlib.Core.Path.{_≡_, refl}
+use mathlib.Core.Path.{_≡_, refl, subst}
 use mathlib.Core.Bool.{Bool, true, false, not, _&&_, cond}
 use mathlib.Core.List.{List}
 use mathlib.Core.Logic.{_↔_, _≢_}
@@ -14,12 +15,13 @@ use Rattle.rules.specs.Sound.{soundOf}
 use Rattle.bodies.specs.Layout.{layoutOf, layoutIn, contentsLen, lengthOf, contentsOf}
 use Rattle.bodies.specs.Taken.{deviceIn, clearIn}
 use Rattle.image.specs.declared.Restored.{Restored}
-use Rattle.image.specs.Image.{agree, saveCode, refused, restoredOf}
+use Rattle.image.specs.Image.{agree, savable, saveCode, refused, restoredOf}
 use Rattle.image.proofs.Agree.{same, alike, unlike, differ}
+use Rattle.image.proofs.Savable.{handshaken, handshaken-not, sound-savable}
 
--- ---- save, of a record and a buffer of n bytes: by soundness and by whether the buffer is short
+-- ---- save, of a record and a buffer of n bytes: by whether the record may be saved and whether the buffer is short
 abbrev saves : Bool → Bool → ℕ
-saves sound short = cond (not sound) 9 (cond short 7 0)
+saves may short = cond (not may) 9 (cond short 7 0)
 
 is-9 : (s l : Bool) → saves s l ≡ 9 → s ≡ false
 is-9 true true h = absurd (omega arith)
@@ -37,25 +39,33 @@ is-0 true false h = (refl, refl)
 is-0 false l h = absurd (omega arith)
 
 module _ (d : Device) (n : ℕ) where
-  -- "record .. break the soundness rules"
-  pub save-9 : (saveCode d n ≡ 9) ↔ (soundOf d ≡ false)
+  -- "record .. break the soundness rules", or a port has a handshake
+  pub save-9 : (saveCode d n ≡ 9) ↔ (savable d ≡ false)
   unfolding saveCode
-  save-9 = (is-9 (soundOf d) (ltb n (lengthOf (layoutOf d))), λ h. simp h)
+  save-9 = (is-9 (savable d) (ltb n (lengthOf (layoutOf d))), λ h. simp h)
 
   -- "save buffer under 84 bytes"
-  pub save-7 : (saveCode d n ≡ 7) ↔ (soundOf d ≡ true) × (n < lengthOf (layoutOf d))
+  pub save-7 : (saveCode d n ≡ 7) ↔ (savable d ≡ true) × (n < lengthOf (layoutOf d))
   unfolding saveCode
   save-7 = (
-    λ h. let p = is-7 (soundOf d) (ltb n (lengthOf (layoutOf d))) h in (p .0, ltb-true n (lengthOf (layoutOf d)) (p .1)),
+    λ h. let p = is-7 (savable d) (ltb n (lengthOf (layoutOf d))) h in (p .0, ltb-true n (lengthOf (layoutOf d)) (p .1)),
     λ h. simp (h .0, lt-ltb n (lengthOf (layoutOf d)) (h .1)),
   )
 
-  pub save-0 : (saveCode d n ≡ 0) ↔ (soundOf d ≡ true) × (lengthOf (layoutOf d) ≤ n)
+  pub save-0 : (saveCode d n ≡ 0) ↔ (savable d ≡ true) × (lengthOf (layoutOf d) ≤ n)
   unfolding saveCode
   save-0 = (
-    λ h. let p = is-0 (soundOf d) (ltb n (lengthOf (layoutOf d))) h in (p .0, ltb-false n (lengthOf (layoutOf d)) (p .1)),
+    λ h. let p = is-0 (savable d) (ltb n (lengthOf (layoutOf d))) h in (p .0, ltb-false n (lengthOf (layoutOf d)) (p .1)),
     λ h. simp (h .0, le-ltb n (lengthOf (layoutOf d)) (h .1)),
   )
+
+  -- "9 for a save with such a port, sound or not"
+  pub save-handshake : handshaken d ≡ true → saveCode d n ≡ 9
+  save-handshake h = save-9 .1 (handshaken-not d h)
+
+  -- and without one as paper 01 has it
+  pub save-plain-9 : handshaken d ≡ false → (saveCode d n ≡ 9) ↔ (soundOf d ≡ false)
+  save-plain-9 h = subst (λ (b : Bool). (saveCode d n ≡ 9) ↔ (b ≡ false)) (sound-savable d h) save-9
 
 -- ---- restore, of an image: by its length, its contents, and its bodies
 abbrev pub restores : Bool → Bool → Bool → Device → Restored
@@ -86,12 +96,12 @@ told-0 true false b d h = absurd (omega arith)
 told-0 false t b d h = absurd (omega arith)
 
 module _ (s : List ℕ) where
-  -- its first bytes, and whether its bodies keep the soundness rules
+  -- its first bytes, and whether its bodies keep the soundness rules and have no port with handshake
   abbrev pub firstBytes : List ℕ
   firstBytes = take (contentsLen (layoutIn s)) s
 
-  abbrev pub soundBodies : Bool
-  soundBodies = clearIn s && soundOf (deviceIn s)
+  abbrev pub goodBodies : Bool
+  goodBodies = clearIn s && savable (deviceIn s)
 
   abbrev pub long : Bool
   long = eqb (length s) (lengthOf (layoutIn s))
@@ -103,7 +113,7 @@ module _ (s : List ℕ) where
   pub restore-7 : (restoredOf s .code ≡ 7) ↔ (length s ≢ lengthOf (layoutIn s))
   unfolding restoredOf
   restore-7 = (
-    λ h. eqb-false _ _ (told-7 long table soundBodies (deviceIn s) h),
+    λ h. eqb-false _ _ (told-7 long table goodBodies (deviceIn s) h),
     λ h. simp (ne-eqb _ _ h),
   )
 
@@ -111,21 +121,21 @@ module _ (s : List ℕ) where
   pub restore-8 : (restoredOf s .code ≡ 8) ↔ (length s ≡ lengthOf (layoutIn s)) × (firstBytes ≢ contentsOf (layoutIn s))
   unfolding restoredOf
   restore-8 = (
-    λ h. let p = told-8 long table soundBodies (deviceIn s) h in (eqb-true _ _ (p .0), differ _ _ (p .1)),
+    λ h. let p = told-8 long table goodBodies (deviceIn s) h in (eqb-true _ _ (p .0), differ _ _ (p .1)),
     λ h. simp (eq-eqb _ _ (h .0), unlike _ _ (h .1)),
   )
 
-  -- "bodies break the soundness rules"
-  pub restore-9 : (restoredOf s .code ≡ 9) ↔ (length s ≡ lengthOf (layoutIn s)) × (firstBytes ≡ contentsOf (layoutIn s)) × (soundBodies ≡ false)
+  -- "bodies break the soundness rules", or a port has a handshake
+  pub restore-9 : (restoredOf s .code ≡ 9) ↔ (length s ≡ lengthOf (layoutIn s)) × (firstBytes ≡ contentsOf (layoutIn s)) × (goodBodies ≡ false)
   unfolding restoredOf
   restore-9 = (
-    λ h. let p = told-9 long table soundBodies (deviceIn s) h in (eqb-true _ _ (p .0), same _ _ (p .1), p .2),
+    λ h. let p = told-9 long table goodBodies (deviceIn s) h in (eqb-true _ _ (p .0), same _ _ (p .1), p .2),
     λ h. simp (eq-eqb _ _ (h .0), alike _ _ (h .1), h .2),
   )
 
-  pub restore-0 : (restoredOf s .code ≡ 0) ↔ (length s ≡ lengthOf (layoutIn s)) × (firstBytes ≡ contentsOf (layoutIn s)) × (soundBodies ≡ true)
+  pub restore-0 : (restoredOf s .code ≡ 0) ↔ (length s ≡ lengthOf (layoutIn s)) × (firstBytes ≡ contentsOf (layoutIn s)) × (goodBodies ≡ true)
   unfolding restoredOf
   restore-0 = (
-    λ h. let p = told-0 long table soundBodies (deviceIn s) h in (eqb-true _ _ (p .0), same _ _ (p .1), p .2),
+    λ h. let p = told-0 long table goodBodies (deviceIn s) h in (eqb-true _ _ (p .0), same _ _ (p .1), p .2),
     λ h. simp (eq-eqb _ _ (h .0), alike _ _ (h .1), h .2),
   )

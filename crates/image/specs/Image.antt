@@ -7,7 +7,8 @@ use lib.Dec.{ltb}
 use lib.ListN.{length, take, drop}
 use Rattle.basics.specs.Signs.{if_then_else_, _==_}
 use Rattle.rules.specs.declared.Device.{Device}
-use Rattle.rules.specs.Record.{freshOf}
+use Rattle.rules.specs.Record.{patternAt, freshOf}
+use Rattle.rules.specs.Handshakes.{handshakes}
 use Rattle.rules.specs.Sound.{soundOf}
 use Rattle.bodies.specs.Layout.{layoutOf, layoutIn, contentsLen, lengthOf, contentsOf}
 use Rattle.bodies.specs.Written.{imageOf}
@@ -21,10 +22,14 @@ agree [] (y ∷ b) = false
 agree (x ∷ a) [] = false
 agree (x ∷ a) (y ∷ b) = x == y && agree a b
 
+-- paper 02, W-203: "The image waits for W-205." "Until W-205, 9 for a save with such a port, sound or not"
+unfoldable pub savable : Device → Bool
+savable d = soundOf d && not (handshakes (patternAt d 0)) && not (handshakes (patternAt d 1))
+
 -- ---- save: "9, then 7", for a buffer of n bytes
 unfoldable pub saveCode : Device → ℕ → ℕ
 saveCode d n =
-    if not (soundOf d) then 9 else
+    if not (savable d) then 9 else
     if ltb n (lengthOf (layoutOf d)) then 7 else
     0
 
@@ -41,5 +46,5 @@ unfoldable pub restoredOf : List ℕ → Restored
 restoredOf s =
     if not (length s == lengthOf (layoutIn s)) then refused 7 else
     if not (agree (take (contentsLen (layoutIn s)) s) (contentsOf (layoutIn s))) then refused 8 else
-    if not (clearIn s && soundOf (deviceIn s)) then refused 9 else
+    if not (clearIn s && savable (deviceIn s)) then refused 9 else
     record { code = 0; device = deviceIn s }

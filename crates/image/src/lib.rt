@@ -6,7 +6,7 @@ ghost use lib.ListN.{length, drop};
 ghost use Rattle.rules.specs.Record.{imageLen};
 ghost use Rattle.bodies.specs.Written.{imageOf};
 ghost use Rattle.bodies.specs.Taken.{deviceIn, clearIn};
-ghost use Rattle.image.specs.Image.{agree, saveCode, savedOf, refused, restoredOf};
+ghost use Rattle.image.specs.Image.{agree, saveCode, savedOf, savable, refused, restoredOf};
 use rules::Device;
 
 // What a restore answers.
@@ -48,12 +48,19 @@ fn write(d: Device, buf: &mut [u8])
     basics::lay(buf, 82, &b.lines);
 }
 
-// Saves a record into the first 84 bytes of a buffer. Codes: 9 for a record that is not sound, 7 for a buffer
-// under 84 bytes, else 0. A refused save leaves the buffer as it was.
+// Whether a record is sound, and no port has a handshake.
+fn is_savable(d: Device) -> bool
+    ensures { λ r. ⌜ r ≡ savable d ⌝ }
+{
+    refusals::sound(d) & !ports::handshakes(d.patterns[0]) & !ports::handshakes(d.patterns[1])
+}
+
+// Saves a record into the first 84 bytes of a buffer. Codes: 9 for a record that is not sound or has a port with handshake, 7 for a
+// buffer under 84 bytes, else 0. A refused save leaves the buffer as it was.
 pub fn save(d: Device, buf: &mut [u8]) -> u8
     ensures { λ r. ⌜ (r ≡ saveCode d (length (now (buf .entry)))) × (now (buf .exit) ≡ savedOf d (now (buf .entry))) ⌝ }
 {
-    if !refusals::sound(d) {
+    if !is_savable(d) {
         return 9;
     }
     if buf.len() < Device::IMAGE_LEN {
@@ -87,7 +94,7 @@ fn refuse(code: u8) -> Restored
 }
 
 // Restores the record of an image. Codes: 7 for other than 84 bytes, 8 for other contents than the table,
-// 9 for bodies that are not sound, else 0. A refused restore gives the fresh device.
+// 9 for bodies that are not sound or have a port with handshake, else 0. A refused restore gives the fresh device.
 pub fn restore(s: &[u8]) -> Restored
     ensures { λ r. ⌜ r ≡ restoredOf (now (s .entry)) ⌝ }
 {
@@ -102,7 +109,7 @@ pub fn restore(s: &[u8]) -> Restored
         return refuse(9);
     }
     let e = read(s);
-    if !refusals::sound(e) {
+    if !is_savable(e) {
         return refuse(9);
     }
     Restored { code: 0, device: e }

@@ -3,7 +3,7 @@
 ghost use mathlib.Core.Bool.{true, false};
 ghost use mathlib.Core.Path.{_≡_};
 ghost use Rattle.io.specs.Counts.{Counts};
-ghost use Rattle.rules.specs.Sound.{soundOf};
+ghost use Rattle.image.specs.Image.{savable};
 ghost use Rattle.image_files.specs.Files.{isDash, freshLoaded};
 use crate::Loaded;
 use console::print;
@@ -192,7 +192,7 @@ fn replace(path: &[u8], report: i32, image: &[u8]) -> bool {
 
 // Saves a device to an image file. Answers whether it is saved; where not, the file is as it was, and a line says why.
 pub fn keep(path: &[u8], d: Device, report: i32) -> bool
-    ensures { λ r. ⌜ (soundOf d ≡ false → r ≡ false) ⌝ }
+    ensures { λ r. ⌜ (savable d ≡ false → r ≡ false) ⌝ }
 {
     let mut image = [0u8; Device::IMAGE_LEN];
     let code = image::save(d, &mut image);

@@ -8,6 +8,7 @@ use rules::Device;
 use rules::Pattern;
 use rules::Port;
 use rules::Source;
+use rules::Transfer;
 
 // IUS, IE, IP, ERR from the command register at a place.
 fn source_at(b: &[u8], i: usize) -> Source
@@ -95,6 +96,13 @@ fn counter_in(b: &[u8], i: usize) -> Counter
 pub(crate) fn read_registers(b: &[u8]) -> Device
     ensures { λ r. ⌜ r ≡ registersIn (now (b .entry)) ⌝ }
 {
+    let none = Transfer {
+        front: 0,
+        behind: 0,
+        bytes: 0,
+        unfinished: false,
+        pair: false,
+    };
     Device {
         master: basics::byte_at(b, 0x00),
         config: basics::byte_at(b, 0x01),
@@ -105,6 +113,7 @@ pub(crate) fn read_registers(b: &[u8]) -> Device
         ],
         ports: ports_in(b),
         patterns: [pattern_in(b, 0), pattern_in(b, 1)],
+        transfers: [none, none],
         counters: [counter_in(b, 0), counter_in(b, 1), counter_in(b, 2)],
         sources: sources_in(b),
         iei: false,

@@ -16,8 +16,8 @@ fn commands(d: Device) -> [u8; 5]
     let b = d.sources[3];
     let ct1 = d.sources[4];
     [
-        sources::port_command(a, d.patterns[0]),
-        sources::port_command(b, d.patterns[1]),
+        sources::port_command(a, d.patterns[0], ports::irf(d.patterns[0], d.transfers[0])),
+        sources::port_command(b, d.patterns[1], ports::irf(d.patterns[1], d.transfers[1])),
         sources::counter_command(ct1, d.counters[0]),
         sources::counter_command(ct2, d.counters[1]),
         sources::counter_command(ct3, d.counters[2]),

@@ -2,10 +2,10 @@
 ghost use mathlib.Core.Path.{_≡_};
 ghost use Prim.Native.Nat.{_<_};
 ghost use Rattle.rules.specs.Record.{vectorAt, patternAt};
+ghost use Rattle.rules.specs.Handshakes.{irfAt};
 ghost use Rattle.rules.specs.Interrupts.{vectorOf, counterStatus, portStatus, withStatus, vectorFor};
 use crate::order;
 use rules::Device;
-use rules::Pattern;
 use rules::Source;
 
 // The vector register of source k: 0 A, 1 B, 2 CT.
@@ -32,13 +32,13 @@ fn counter_vector(base: u8, n: usize, err: bool) -> u8
 }
 
 // A port's vector with status.
-fn port_vector(base: u8, pmf: bool, err: bool) -> u8
-    ensures { λ r. ⌜ r ≡ portStatus base pmf err ⌝ }
+fn port_vector(base: u8, irf: bool, pmf: bool, err: bool) -> u8
+    ensures { λ r. ⌜ r ≡ portStatus base irf pmf err ⌝ }
 {
-    if pmf & !err {
-        return base / 16 * 16 + 2 + base % 2;
+    if err {
+        return base / 16 * 16 + base % 2;
     }
-    base / 16 * 16 + base % 2
+    base / 16 * 16 + basics::weight(irf, 4) + basics::weight(pmf, 2) + base % 2
 }
 
 // Vector v: A, B, CT, and past them 0.
@@ -51,11 +51,19 @@ pub(crate) fn vector_at(d: Device, v: usize) -> u8
     0
 }
 
-fn pattern_at(d: Device, p: usize) -> Pattern
+fn irf_at(d: Device, p: usize) -> bool
     requires { ⌜ p < 2 ⌝ }
-    ensures { λ r. ⌜ r ≡ patternAt d p ⌝ }
+    ensures { λ r. ⌜ r ≡ irfAt d p ⌝ }
 {
-    d.patterns[p]
+    ports::irf(d.patterns[p], d.transfers[p])
+}
+
+// The vector of port p with status.
+fn port_status(d: Device, p: usize, base: u8, err: bool) -> u8
+    requires { ⌜ p < 2 ⌝ }
+    ensures { λ r. ⌜ r ≡ portStatus base (irfAt d p) (patternAt d p .pmf) err ⌝ }
+{
+    port_vector(base, irf_at(d, p), d.patterns[p].pmf, err)
 }
 
 // The vector of source k with status. Ports have the odd places.
@@ -67,7 +75,7 @@ pub(crate) fn with_status(d: Device, k: usize) -> u8
     let err = order::source_at(d, k).err;
     let of_port = k % 2 == 1;
     if of_port {
-        return port_vector(base, pattern_at(d, k / 2).pmf, err);
+        return port_status(d, k / 2, base, err);
     }
     counter_vector(base, k / 2, err)
 }

@@ -1,23 +1,32 @@
 // What the ports of a device show: the values put out, pins, path values and data.
+mod handshake;
 mod port;
 
 ghost use mathlib.Core.Path.{_≡_};
-ghost use Rattle.rules.specs.Record.{portAt};
-ghost use Rattle.rules.specs.Registers.{portEnabled, counterOn};
-ghost use Rattle.rules.specs.PortData.{valueAt, pinsAt, pathAt, seenAt, dataAt};
+ghost use Rattle.rules.specs.Record.{portAt, patternAt, transferAt};
+ghost use Rattle.rules.specs.Registers.{portOn, portEnabled, counterOn};
+ghost use Rattle.rules.specs.Handshakes.{handshakes};
+ghost use Rattle.rules.specs.PortData.{directionAt, effectiveAt, valueAt, pinsAt, pathAt, seenAt, dataAt};
 use rules::Device;
 use rules::Port;
+
+// Whether a configuration enables port p.
+pub fn port_on(config: u8, p: usize) -> bool
+    ensures { λ r. ⌜ r ≡ portOn config p ⌝ }
+{
+    if p == 0 {
+        return config / 4 % 2 == 1;
+    }
+    if p == 1 {
+        return config / 128 % 2 == 1;
+    }
+    config / 16 % 2 == 1
+}
 
 pub fn port_enabled(d: Device, p: usize) -> bool
     ensures { λ r. ⌜ r ≡ portEnabled d p ⌝ }
 {
-    if p == 0 {
-        return d.config / 4 % 2 == 1;
-    }
-    if p == 1 {
-        return d.config / 128 % 2 == 1;
-    }
-    d.config / 16 % 2 == 1
+    port_on(d.config, p)
 }
 
 // Whether a configuration enables counter i.
@@ -37,17 +46,57 @@ pub fn counter_on(config: u8, i: usize) -> bool
 fn port_at(d: Device, p: usize) -> Port
     ensures { λ r. ⌜ r ≡ portAt d p ⌝ }
 {
-    if p < 3 {
-        return d.ports[p];
+    match p {
+        0 => d.ports[0],
+        1 => d.ports[1],
+        2 => d.ports[2],
+        _ => Port {
+            polarity: 0,
+            direction: 0,
+            special: 0,
+            output: 0,
+            outside: 0,
+            catcher: 0,
+        },
     }
-    Port {
-        polarity: 0,
-        direction: 0,
-        special: 0,
-        output: 0,
-        outside: 0,
-        catcher: 0,
+}
+
+// Whether port p has a handshake; past A and B none has.
+pub fn handshakes_at(d: Device, p: usize) -> bool
+    ensures { λ r. ⌜ r ≡ handshakes (patternAt d p) ⌝ }
+{
+    match p {
+        0 => ports::handshakes(d.patterns[0]),
+        1 => ports::handshakes(d.patterns[1]),
+        _ => false,
     }
+}
+
+// The front byte of port p; past A and B 0.
+fn front_at(d: Device, p: usize) -> u8
+    ensures { λ r. ⌜ r ≡ transferAt d p .front ⌝ }
+{
+    match p {
+        0 => d.transfers[0].front,
+        1 => d.transfers[1].front,
+        _ => 0,
+    }
+}
+
+// Port p with what is in effect: its own settings, but for a handshake.
+pub fn effective_at(d: Device, p: usize) -> Port
+    ensures { λ r. ⌜ r ≡ effectiveAt d p ⌝ }
+{
+    if handshake::any(d) {
+        return handshake::effective(d, p);
+    }
+    port_at(d, p)
+}
+
+pub fn direction_at(d: Device, p: usize) -> u8
+    ensures { λ r. ⌜ r ≡ directionAt d p ⌝ }
+{
+    effective_at(d, p).direction
 }
 
 // The value that port p puts out.
@@ -65,27 +114,27 @@ fn value_at(d: Device, p: usize) -> u8
         return port::stand(c1, true, port::stand(c2, false, x));
     }
     let c3 = d.counters[2];
-    port::stand(c3, false, x)
+    handshake::shown(d, port::stand(c3, false, x))
 }
 
 pub fn pins_at(d: Device, p: usize) -> u8
     ensures { λ r. ⌜ r ≡ pinsAt d p ⌝ }
 {
-    let q = port_at(d, p);
+    let q = effective_at(d, p);
     port::pins(port_enabled(d, p), q, value_at(d, p))
 }
 
 pub fn path_at(d: Device, p: usize) -> u8
     ensures { λ r. ⌜ r ≡ pathAt d p ⌝ }
 {
-    let q = port_at(d, p);
+    let q = effective_at(d, p);
     port::path(q, pins_at(d, p), value_at(d, p))
 }
 
 pub fn seen_at(d: Device, p: usize) -> u8
     ensures { λ r. ⌜ r ≡ seenAt d p ⌝ }
 {
-    let q = port_at(d, p);
+    let q = effective_at(d, p);
     port::seen(port_enabled(d, p), q, path_at(d, p))
 }
 
@@ -93,8 +142,15 @@ pub fn data_at(d: Device, p: usize) -> u8
     ensures { λ r. ⌜ r ≡ dataAt d p ⌝ }
 {
     if p == 2 {
-        let q = port_at(d, p);
-        return port::seen(port_enabled(d, p), q, port::level(q, pins_at(d, p)));
+        let q = effective_at(d, p);
+        return port::seen(
+            port_enabled(d, p),
+            q,
+            port::level(port_at(d, p), pins_at(d, p)),
+        );
+    }
+    if handshakes_at(d, p) {
+        return front_at(d, p);
     }
     seen_at(d, p)
 }

@@ -30,7 +30,7 @@ module _ (m : Measure) (d : Device) (e : Event) where
 
   -- the accepted event, by its kind
   pub kinds : (P : Measure → Type 0) → (isT e ≡ true → P (ticked (e .a) d m)) → (isK e ≡ true → P (taken d m))
-      → P (stepped (clears e) d (eventOf d e .device) m) → P (measureOf m d e)
+      → P (stepped (clears d e) d (eventOf d e .device) m) → P (measureOf m d e)
   unfolding measureOf
   kinds P f g h = by-test P (isT e) _ _ f (λ _. by-test P (isK e) _ _ g (λ _. h))
 

@@ -9,10 +9,12 @@ use Rattle.basics.specs.Signs.{if_then_else_, _==_}
 use Rattle.rules.specs.declared.Device.{Device}
 use Rattle.rules.specs.declared.Event.{Event}
 use Rattle.rules.specs.declared.Outcome.{Outcome}
-use Rattle.rules.specs.Record.{sourceAt}
+use Rattle.rules.specs.Record.{patternAt, transferAt, sourceAt}
+use Rattle.rules.specs.Handshakes.{handshakes, itb}
 use Rattle.rules.specs.Interrupts.{requester}
+use Rattle.rules.specs.Access.{clearsIp}
 use Rattle.rules.specs.Step.{ranOf}
-use Rattle.rules.specs.Events.{isW, isT, isK, codeOf, effect, outcomeOf, eventOf}
+use Rattle.rules.specs.Events.{isW, isR, isT, isK, codeOf, effect, outcomeOf, eventOf}
 use Rattle.measure.specs.declared.Wait.{Wait}
 use Rattle.measure.specs.declared.Measure.{Measure}
 use Rattle.measure.specs.declared.Measured.{Measured}
@@ -45,10 +47,16 @@ commandOf k = if k % 2 == 1 then 0x08 + k / 2 else 0x0C - k / 2
 -- whether an event clears IP of the source with that register, and may set it again: "1 clear IP and IUS", "5 clear IP". A set in the
 -- same event is a new request, from the hidden error too. (While RESET is 1 these writes do nothing, and there is no IP.)
 abbrev pub clearsBy : Event → ℕ → Bool
-clearsBy e command = isW e && e .a == command && (e .b / 32 == 1 || e .b / 32 == 5)
+clearsBy e command = isW e && e .a == command && clearsIp (e .b / 32)
 
-abbrev pub clears : Event → ℕ → Bool
-clears e k = clearsBy e (commandOf k)
+-- W-203: "Reading the data clears IP, with ITB 1 at the second byte read since IP rose": of port p, at 0DH or 0EH
+abbrev pub clearsByRead : Device → Event → ℕ → Bool
+clearsByRead d e p =
+    isR e && e .a == 0x0D + p && handshakes (patternAt d p) && (not (itb (patternAt d p)) || transferAt d p .pair)
+
+-- whether an event clears IP of source k; those at odd places are the ports'
+abbrev pub clears : Device → Event → ℕ → Bool
+clears d e k = clearsBy e (commandOf k) || (k % 2 == 1 && clearsByRead d e (k / 2))
 
 -- ---- clocks
 -- one clock, from the record d to the record e
@@ -78,7 +86,7 @@ unfoldable pub measureOf : Measure → Device → Event → Measure
 measureOf m d e =
     if isT e then ticked (e .a) d m else
     if isK e then taken d m else
-    stepped (clears e) d (eventOf d e .device) m
+    stepped (clears d e) d (eventOf d e .device) m
 
 abbrev pub beside : Measure → Outcome → Measured
 beside m o = record { measure = m; device = o .device; answer = o .answer }

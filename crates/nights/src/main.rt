@@ -23,7 +23,8 @@ fn refused(from: &[u8], to: &[u8]) {
     night(from, to, b"two_lines");
 }
 
-// A night refused in each way. The file `kept` stays as it is, which the last night shows: it runs on it.
+// A night refused in each way, at last for a port with handshake that the trace sets up. The file `kept` stays as it is,
+// which the last night shows: it runs on it.
 fn refusals() {
     refused(b"missing", b"kept");
     refused(b".", b"kept");
@@ -35,6 +36,7 @@ fn refusals() {
     refused(b"kept", b"missing/kept");
     refused(b"kept", b"kept/kept");
     refused(b"kept", b"folder");
+    night(b"kept", b"kept", b"handshake");
     refused(b"kept", b"kept");
 }
 

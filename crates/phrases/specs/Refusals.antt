@@ -17,12 +17,13 @@ side n = if ltb imageLen n then spelled ": refused 7 (over " else spelled ": ref
 unfoldable pub notWhole : ℕ → List ℕ
 notWhole n = side n ++ decimalText imageLen ++ spelled " bytes)\n"
 
--- "8 | image's first 18 bytes differ from the table", "9 | record or bodies break the soundness rules"
+-- "8 | image's first 18 bytes differ from the table", "9 | record or bodies break the soundness rules"; paper 02,
+-- W-203: "Until W-205, 9 for a save with such a port, sound or not"
 unfoldable pub refusal : ℕ → ℕ → List ℕ
 refusal code n =
     if code == 7 then notWhole n else
     if code == 8 then spelled ": refused 8 (contents differ)\n" else
-    spelled ": refused 9 (bodies unsound)\n"
+    spelled ": refused 9 (unsound, or a port with handshake)\n"
 
 -- ---- files
 -- what was tried

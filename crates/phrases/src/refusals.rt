@@ -30,7 +30,10 @@ pub fn refusal_line(code: u8, n: usize) -> Text
     match code {
         7 => not_whole(n),
         8 => word(texts::no_text(), b": refused 8 (contents differ)\n"),
-        _ => word(texts::no_text(), b": refused 9 (bodies unsound)\n"),
+        _ => word(
+            texts::no_text(),
+            b": refused 9 (unsound, or a port with handshake)\n",
+        ),
     }
 }
 

@@ -1,7 +1,7 @@
 -- The masks of the code, bit by bit: at each bit one truth table.
 -- Assumes nothing.
-use Prim.Native.Nat.{ℕ, _+_, _/_, _<_}
-use mathlib.Core.Path.{_≡_}
+use Prim.Native.Nat.{ℕ, _+_, _-_, _/_, _%_, _<_}
+use mathlib.Core.Path.{_≡_, refl}
 use mathlib.Core.Bool.{Bool, true, false, not, _&&_, _||_, Bool·beq, cond}
 use lib.Dec.{eqb, ltb, lit<, eqb→eq}
 use lib.Bits.{bitAnd, bitOr, bitXor, and-lt, or-lt, xor-lt}
@@ -11,7 +11,7 @@ use Rattle.rules.specs.declared.Port.{Port}
 use Rattle.rules.specs.Counters.{outputEnabled, outputOf}
 use Rattle.rules.specs.PortData.{pinBit, pathBit, catches, caughtBit, seenBit, standing, outputBit, clearedBit, putOf}
 use Rattle.rules.specs.Patterns.{onBit, hitBit}
-use Rattle.basics.proofs.Truth.{all3, all4, all5, all6, same}
+use Rattle.basics.proofs.Truth.{all2, all3, all4, all5, all6, same}
 use Rattle.basics.proofs.Laws.{bit-and, bit-or, bit-xor, ones, by-bits, below, bit-byte, byte-lt, inside}
 
 -- the bits that have a catcher, from the port's enable, direction and special
@@ -96,7 +96,7 @@ unfolding byteOf
 opened-bits b h =
     eqb→eq _ _ (below (λ b. eqb (bitAnd (bitXor (b / 16) 255) 15) (byteOf (λ k. ltb k 4 && not (bit b (k + 4))))) 256 tt b h)
 
--- what a write of b leaves of the output register and the catchers, at the places f
+-- what a write of b, with the direction i in effect, leaves of the output register and the catchers, at the places f
 abbrev through : (ℕ → Bool) → ℕ → ℕ
 through f i = bitAnd (byteOf f) (bitXor i 255)
 
@@ -124,18 +124,18 @@ cleared-bits f b c hb hc =
     (same _ _
     (all3 (λ m b c. Bool·beq (c && differs (m && differs b true) true) (clearedBit m b c)) tt (f k) (bit b k) (bit c k))))
 
-pub put-bits : (f : ℕ → Bool) (q : Port) (b : ℕ) → q .direction < 256 → q .output < 256 → q .catcher < 256 → b < 256
+pub put-bits : (f : ℕ → Bool) (q : Port) (i b : ℕ) → i < 256 → q .output < 256 → q .catcher < 256 → b < 256
     → record {
       polarity = q .polarity;
       direction = q .direction;
       special = q .special;
-      output = bitOr (bitAnd b (through f (q .direction))) (bitAnd (q .output) (bitXor (through f (q .direction)) 255));
+      output = bitOr (bitAnd b (through f i)) (bitAnd (q .output) (bitXor (through f i) 255));
       outside = q .outside;
       catcher = bitAnd (q .catcher) (bitXor (bitAnd (byteOf f) (bitXor b 255)) 255);
     }
-    ≡ putOf q f b
+    ≡ putOf q i f b
 unfolding putOf
-put-bits f q b hi ho hc hb = simp (output-bits f (q .direction) b (q .output) hi hb ho, cleared-bits f b (q .catcher) hb hc)
+put-bits f q i b hi ho hc hb = simp (output-bits f i b (q .output) hi hb ho, cleared-bits f b (q .catcher) hb hc)
 
 -- a pattern's bits that are on, and those whose condition holds
 pub on-bits : (m t : ℕ) → m < 256 → t < 256 → bitOr m t ≡ byteOf (λ k. onBit (bit m k) (bit t k))
@@ -177,3 +177,54 @@ sound-bits f c x hc hx =
       inside c (byteOf f) (λ k. not (bit c k) || f k) hc (byte-lt f) (λ k h. simp (bit-byte f k h)),
       inside (bitAnd (byteOf f) x) c (λ k. not (f k && bit x k) || bit c k) (and-lt 8 _ _ (byte-lt f) hx) hc (λ k h. simp (bit-and, bit-byte f k h)),
     )
+
+-- ---- the lines of the ports with handshake, at the places f of Port C: the even bits are inputs, the odd ones show ready
+even : (k : ℕ) → k < 8 → bit 0x55 k ≡ eqb (k % 2) 0
+even k h = same _ _ (below (λ k. Bool·beq (bit 0x55 k) (eqb (k % 2) 0)) 8 tt k h)
+
+odd : (k : ℕ) → k < 8 → bit 0xAA k ≡ eqb (k % 2) 1
+odd k h = same _ _ (below (λ k. Bool·beq (bit 0xAA k) (eqb (k % 2) 1)) 8 tt k h)
+
+pub direction-bits : (f : ℕ → Bool) (i : ℕ) → i < 256
+    → bitOr (bitAnd i (bitXor (byteOf f) 255)) (bitAnd (byteOf f) 0x55) ≡ byteOf (λ k. cond (f k) (eqb (k % 2) 0) (bit i k))
+direction-bits f i hi =
+    by-bits _ _ (search (or-lt 8, and-lt 8, xor-lt 8, byte-lt, lit<, tt) depth 9)
+    (λ k h.
+    simp (bit-or, bit-and, bit-xor, ones k h, bit-byte f k h, even k h)
+    (same _ _ (all3 (λ m e i. Bool·beq ((i && differs m true) || (m && e)) (cond m e i)) tt (f k) (eqb (k % 2) 0) (bit i k))))
+
+pub special-bits : (f : ℕ → Bool) (s : ℕ) → s < 256
+    → bitAnd s (bitXor (bitAnd (byteOf f) 0x55) 255) ≡ byteOf (λ k. not (f k && eqb (k % 2) 0) && bit s k)
+special-bits f s hs =
+    by-bits _ _ (search (and-lt 8, xor-lt 8, byte-lt, lit<, tt) depth 9)
+    (λ k h.
+    simp (bit-and, bit-xor, ones k h, bit-byte f k h, even k h)
+    (same _ _ (all3 (λ m e s. Bool·beq (s && differs (m && e) true) (not (m && e) && s)) tt (f k) (eqb (k % 2) 0) (bit s k))))
+
+-- Port A's lines are D3-D2, Port B's D1-D0: what g says of the ports, at their lines
+abbrev pub atLines : (ℕ → Bool) → ℕ → Bool
+atLines g k = ltb k 4 && g (1 - k / 2)
+
+pub at-lines : (g : ℕ → Bool) → byteOf (λ k. ltb k 4 && cond (ltb k 2) (g 1) (g 0)) ≡ byteOf (atLines g)
+unfolding byteOf
+at-lines g = refl
+
+pub at-lines-bits : (a b : Bool) → bitOr (bitAnd (byteOf (λ k. a)) 12) (bitAnd (byteOf (λ k. b)) 3) ≡ byteOf (λ k. ltb k 4 && cond (ltb k 2) b a)
+unfolding byteOf
+at-lines-bits a b =
+    eqb→eq _ _
+    (all2 (λ a b. eqb (bitOr (bitAnd (byteOf (λ k. a)) 12) (bitAnd (byteOf (λ k. b)) 3)) (byteOf (λ k. ltb k 4 && cond (ltb k 2) b a))) tt a b)
+
+pub lined-bits : (f g : ℕ → Bool) (x : ℕ) → x < 256
+    → bitOr (bitAnd x (bitXor (bitAnd (byteOf (atLines f)) 0xAA) 255)) (bitAnd (byteOf (atLines g)) (bitAnd (byteOf (atLines f)) 0xAA))
+    ≡ byteOf (λ k. cond (atLines f k && eqb (k % 2) 1) (g (1 - k / 2)) (bit x k))
+lined-bits f g x hx =
+    by-bits _ _ (search (or-lt 8, and-lt 8, xor-lt 8, byte-lt, lit<, tt) depth 9)
+    (λ k h.
+    simp (bit-or, bit-and, bit-xor, ones k h, bit-byte (atLines f) k h, bit-byte (atLines g) k h, odd k h)
+    (same _ _
+    (all5
+    (λ l m r o x.
+    let t = l && m && o in
+    Bool·beq ((x && differs t true) || (l && r && t)) (cond t r x))
+    tt (ltb k 4) (f (1 - k / 2)) (g (1 - k / 2)) (eqb (k % 2) 1) (bit x k))))

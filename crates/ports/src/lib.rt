@@ -3,8 +3,10 @@ ghost use mathlib.Core.Path.{_≡_};
 ghost use Rattle.basics.specs.Byte.{byteOf};
 ghost use Rattle.rules.specs.PortData.{catchesAt};
 ghost use Rattle.rules.specs.Patterns.{onAt};
+ghost use Rattle.rules.specs.Handshakes.{handshakes, depth, irfOf, readyOf};
 use rules::Pattern;
 use rules::Port;
+use rules::Transfer;
 
 // A bit at all eight places: 255 or 0.
 pub fn spread(on: bool) -> u8
@@ -25,4 +27,33 @@ pub fn on(p: Pattern) -> u8
     ensures { λ r. ⌜ r ≡ byteOf (onAt p) ⌝ }
 {
     p.mask | p.transition
+}
+
+// Whether a port has a handshake.
+pub fn handshakes(q: Pattern) -> bool
+    ensures { λ r. ⌜ r ≡ handshakes q ⌝ }
+{
+    q.mode / 64 == 1
+}
+
+// How many bytes a port with handshake has room for.
+pub fn depth(q: Pattern) -> u8
+    ensures { λ r. ⌜ r ≡ depth q ⌝ }
+{
+    let sb = q.mode / 16 % 2 == 1;
+    if sb { 1 } else { 2 }
+}
+
+// Whether its Input register is full.
+pub fn irf(q: Pattern, t: Transfer) -> bool
+    ensures { λ r. ⌜ r ≡ irfOf q t ⌝ }
+{
+    handshakes(q) & !(t.bytes == 0)
+}
+
+// What the ready line of a port shows.
+pub fn ready(enabled: bool, q: Pattern, t: Transfer) -> bool
+    ensures { λ r. ⌜ r ≡ readyOf enabled q t ⌝ }
+{
+    enabled & (t.bytes < depth(q)) & !t.unfinished
 }

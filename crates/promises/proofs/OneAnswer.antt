@@ -22,11 +22,13 @@ use Rattle.registers.specs.Place.{place}
 use Rattle.rules.specs.Access.{afterRead, readOf, writtenOf}
 use Rattle.rules.specs.Counters.{commandedBy, counts, outputOf, reachOf, turnOf}
 use Rattle.rules.specs.Events.{codeOf, eventOf}
+use Rattle.rules.specs.Handshakes.{depth, handshakes, irfOf, readyOf}
 use Rattle.rules.specs.Interrupts.{acknowledge, acknowledged, currentVector, fateOf, ieoOf, intOf, requester, vectorRead}
+use Rattle.rules.specs.Moves.{givenAt, movesOf}
 use Rattle.rules.specs.Patterns.{onAt}
-use Rattle.rules.specs.PortData.{catchesAt, dataAt, pathAt, pinsAt, seenAt}
-use Rattle.rules.specs.Record.{freshOf, imageLen, ofCounter, ofPort, registerCount, resetOf}
-use Rattle.rules.specs.Registers.{commanded, counterCommandOf, counterOn, kindOf, portCommandOf, portEnabled, reset}
+use Rattle.rules.specs.PortData.{catchesAt, dataAt, directionAt, effectiveAt, pathAt, pinsAt, seenAt}
+use Rattle.rules.specs.Record.{freshOf, imageLen, ofCounter, ofPort, patternAt, registerCount, resetOf}
+use Rattle.rules.specs.Registers.{commanded, counterCommandOf, counterOn, kindOf, portCommandOf, portEnabled, portOn, reset}
 use Rattle.rules.specs.Sound.{sameOf, soundOf}
 use Rattle.rules.specs.Step.{ranOf, stepOf}
 use Rattle.rules.specs.With.{device}
@@ -89,6 +91,10 @@ use Rattle.interrupts.proofs.acknowledged as interrupts·acknowledged
 use Rattle.interrupts.proofs.vector_read as interrupts·vector-read
 use Rattle.interrupts.proofs.current_vector as interrupts·current-vector
 use Rattle.levels.proofs.port_enabled as levels·port-enabled
+use Rattle.levels.proofs.port_on as levels·port-on
+use Rattle.levels.proofs.handshakes_at as levels·handshakes-at
+use Rattle.levels.proofs.effective_at as levels·effective-at
+use Rattle.levels.proofs.direction_at as levels·direction-at
 use Rattle.levels.proofs.counter_on as levels·counter-on
 use Rattle.levels.proofs.pins_at as levels·pins-at
 use Rattle.levels.proofs.path_at as levels·path-at
@@ -96,9 +102,15 @@ use Rattle.levels.proofs.seen_at as levels·seen-at
 use Rattle.levels.proofs.data_at as levels·data-at
 use Rattle.lines.proofs.cut_from as lines·cut-from
 use Rattle.lines.proofs.event_of_line as lines·event-of-line
+use Rattle.moves.proofs.moves as moves·moves
+use Rattle.moves.proofs.given as moves·given
 use Rattle.ports.proofs.spread as ports·spread
 use Rattle.ports.proofs.places as ports·places
 use Rattle.ports.proofs.on as ports·on
+use Rattle.ports.proofs.handshakes as ports·handshakes
+use Rattle.ports.proofs.depth as ports·depth
+use Rattle.ports.proofs.irf as ports·irf
+use Rattle.ports.proofs.ready as ports·ready
 use Rattle.read_access.proofs.read as read-access·read
 use Rattle.read_access.proofs.after_read as read-access·after-read
 use Rattle.sources.proofs.command as sources·command
@@ -294,11 +306,23 @@ module _ {M : Type 1} (𝓤 : URA M) where
   pub interrupts-current-vector : OneResult 𝓤 interrupts·current-vector.ended (interrupts·current-vector.clauses 𝓤)
   interrupts-current-vector = one-result 𝓤 interrupts·current-vector.ended (interrupts·current-vector.clauses 𝓤) (λ κs a. currentVector (a .0)) refl
 
+  pub levels-port-on : OneResult 𝓤 levels·port-on.ended (levels·port-on.clauses 𝓤)
+  levels-port-on = one-result 𝓤 levels·port-on.ended (levels·port-on.clauses 𝓤) (λ κs a. portOn (a .0) (a .1 .0)) refl
+
   pub levels-port-enabled : OneResult 𝓤 levels·port-enabled.ended (levels·port-enabled.clauses 𝓤)
   levels-port-enabled = one-result 𝓤 levels·port-enabled.ended (levels·port-enabled.clauses 𝓤) (λ κs a. portEnabled (a .0) (a .1 .0)) refl
 
   pub levels-counter-on : OneResult 𝓤 levels·counter-on.ended (levels·counter-on.clauses 𝓤)
   levels-counter-on = one-result 𝓤 levels·counter-on.ended (levels·counter-on.clauses 𝓤) (λ κs a. counterOn (a .0) (a .1 .0)) refl
+
+  pub levels-handshakes-at : OneResult 𝓤 levels·handshakes-at.ended (levels·handshakes-at.clauses 𝓤)
+  levels-handshakes-at = one-result 𝓤 levels·handshakes-at.ended (levels·handshakes-at.clauses 𝓤) (λ κs a. handshakes (patternAt (a .0) (a .1 .0))) refl
+
+  pub levels-effective-at : OneResult 𝓤 levels·effective-at.ended (levels·effective-at.clauses 𝓤)
+  levels-effective-at = one-result 𝓤 levels·effective-at.ended (levels·effective-at.clauses 𝓤) (λ κs a. effectiveAt (a .0) (a .1 .0)) refl
+
+  pub levels-direction-at : OneResult 𝓤 levels·direction-at.ended (levels·direction-at.clauses 𝓤)
+  levels-direction-at = one-result 𝓤 levels·direction-at.ended (levels·direction-at.clauses 𝓤) (λ κs a. directionAt (a .0) (a .1 .0)) refl
 
   pub levels-pins-at : OneResult 𝓤 levels·pins-at.ended (levels·pins-at.clauses 𝓤)
   levels-pins-at = one-result 𝓤 levels·pins-at.ended (levels·pins-at.clauses 𝓤) (λ κs a. pinsAt (a .0) (a .1 .0)) refl
@@ -320,6 +344,12 @@ module _ {M : Type 1} (𝓤 : URA M) where
   pub lines-event-of-line : OneResult 𝓤 lines·event-of-line.ended (lines·event-of-line.clauses 𝓤)
   lines-event-of-line = one-result 𝓤 lines·event-of-line.ended (lines·event-of-line.clauses 𝓤) (λ κs a. eventIn (saysOf (a .0))) refl
 
+  pub moves-moves : OneResult 𝓤 moves·moves.ended (moves·moves.clauses 𝓤)
+  moves-moves = one-result 𝓤 moves·moves.ended (moves·moves.clauses 𝓤) (λ κs a. movesOf (a .0) (a .1 .0)) refl
+
+  pub moves-given : OneResult 𝓤 moves·given.ended (moves·given.clauses 𝓤)
+  moves-given = one-result 𝓤 moves·given.ended (moves·given.clauses 𝓤) (λ κs a. givenAt (a .0) (a .1 .0)) refl
+
   pub ports-spread : OneResult 𝓤 ports·spread.ended (ports·spread.clauses 𝓤)
   ports-spread = one-result 𝓤 ports·spread.ended (ports·spread.clauses 𝓤) (λ κs a. byteOf (λ k. (a .0))) refl
 
@@ -328,6 +358,18 @@ module _ {M : Type 1} (𝓤 : URA M) where
 
   pub ports-on : OneResult 𝓤 ports·on.ended (ports·on.clauses 𝓤)
   ports-on = one-result 𝓤 ports·on.ended (ports·on.clauses 𝓤) (λ κs a. byteOf (onAt (a .0))) refl
+
+  pub ports-handshakes : OneResult 𝓤 ports·handshakes.ended (ports·handshakes.clauses 𝓤)
+  ports-handshakes = one-result 𝓤 ports·handshakes.ended (ports·handshakes.clauses 𝓤) (λ κs a. handshakes (a .0)) refl
+
+  pub ports-depth : OneResult 𝓤 ports·depth.ended (ports·depth.clauses 𝓤)
+  ports-depth = one-result 𝓤 ports·depth.ended (ports·depth.clauses 𝓤) (λ κs a. depth (a .0)) refl
+
+  pub ports-irf : OneResult 𝓤 ports·irf.ended (ports·irf.clauses 𝓤)
+  ports-irf = one-result 𝓤 ports·irf.ended (ports·irf.clauses 𝓤) (λ κs a. irfOf (a .0) (a .1 .0)) refl
+
+  pub ports-ready : OneResult 𝓤 ports·ready.ended (ports·ready.clauses 𝓤)
+  ports-ready = one-result 𝓤 ports·ready.ended (ports·ready.clauses 𝓤) (λ κs a. readyOf (a .0) (a .1 .0) (a .1 .1 .0)) refl
 
   pub read-access-read : OneResult 𝓤 read-access·read.ended (read-access·read.clauses 𝓤)
   read-access-read = one-result 𝓤 read-access·read.ended (read-access·read.clauses 𝓤) (λ κs a. readOf (a .0) (kindOf (a .1 .0))) refl
@@ -339,7 +381,7 @@ module _ {M : Type 1} (𝓤 : URA M) where
   sources-command = one-result 𝓤 sources·command.ended (sources·command.clauses 𝓤) (λ κs a. commanded (a .0) (a .1 .0)) refl
 
   pub sources-port-command : OneResult 𝓤 sources·port-command.ended (sources·port-command.clauses 𝓤)
-  sources-port-command = one-result 𝓤 sources·port-command.ended (sources·port-command.clauses 𝓤) (λ κs a. portCommandOf (a .0) (a .1 .0)) refl
+  sources-port-command = one-result 𝓤 sources·port-command.ended (sources·port-command.clauses 𝓤) (λ κs a. portCommandOf (a .0) (a .1 .0) (a .1 .1 .0)) refl
 
   pub sources-counter-command : OneResult 𝓤 sources·counter-command.ended (sources·counter-command.clauses 𝓤)
   sources-counter-command =

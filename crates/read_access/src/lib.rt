@@ -5,7 +5,7 @@ ghost use Rattle.rules.specs.Record.{counterAt};
 ghost use Rattle.rules.specs.With.{withCounter};
 ghost use Rattle.rules.specs.Registers.{kindOf};
 ghost use Rattle.rules.specs.Counters.{thawed, shown};
-ghost use Rattle.rules.specs.Access.{portCommand, counterCommand, readOf, afterRead};
+ghost use Rattle.rules.specs.Access.{portCommand, counterCommand, readOf, readsByte, afterRead};
 ghost use Rattle.registers.specs.Place.{place, places};
 use rules::Counter;
 use rules::Device;
@@ -17,7 +17,8 @@ fn port_command(d: Device, p: usize) -> u8
     ensures { λ r. ⌜ r ≡ portCommand d p ⌝ }
 {
     let k = Source::of_port(p);
-    sources::port_command(d.sources[k], d.patterns[p])
+    let q = d.patterns[p];
+    sources::port_command(d.sources[k], q, ports::irf(q, d.transfers[p]))
 }
 
 fn counter_command(d: Device, i: usize) -> u8
@@ -85,6 +86,16 @@ fn thaw(d: Device, i: usize) -> Device
     e
 }
 
+// Whether the read is of the data of a port with handshake.
+fn reads_byte(d: Device, address: u32) -> bool
+    ensures { λ r. ⌜ r ≡ readsByte d address ⌝ }
+{
+    if (0x0D <= address) & (address <= 0x0E) {
+        return levels::handshakes_at(d, (address - 0x0D) as usize);
+    }
+    false
+}
+
 // The record after a read.
 pub fn after_read(d: Device, address: u32) -> Device
     ensures { λ r. ⌜ r ≡ afterRead d address ⌝ }
@@ -92,6 +103,9 @@ pub fn after_read(d: Device, address: u32) -> Device
     let low_byte = (0x10 <= address) & (address <= 0x15) & (address % 2 == 1);
     if low_byte {
         return thaw(d, ((address - 0x10) / 2) as usize);
+    }
+    if reads_byte(d, address) {
+        return moves::given(d, (address - 0x0D) as usize);
     }
     d
 }

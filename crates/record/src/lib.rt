@@ -2,12 +2,13 @@
 ghost use mathlib.Core.Path.{_≡_};
 ghost use Prim.Native.Nat.{_<_};
 ghost use Rattle.rules.specs.Record.{portAt, counterAt, sourceAt, resetOf};
-ghost use Rattle.rules.specs.Sound.{sameSource, sameCounter, samePort, samePattern, sameSources, sameCounters, samePorts, samePatterns, sameVectors, sameOf};
+ghost use Rattle.rules.specs.Sound.{sameSource, sameCounter, samePort, samePattern, sameTransfer, sameSources, sameCounters, samePorts, samePatterns, sameTransfers, sameVectors, sameOf};
 use rules::Counter;
 use rules::Device;
 use rules::Pattern;
 use rules::Port;
 use rules::Source;
+use rules::Transfer;
 
 // What a reset leaves.
 pub fn reset(d: Device) -> Device
@@ -61,6 +62,16 @@ fn same_pattern(q: Pattern, s: Pattern) -> bool
         & (q.mask == s.mask)
         & (q.ioe == s.ioe)
         & (q.pmf == s.pmf)
+}
+
+fn same_transfer(t: Transfer, u: Transfer) -> bool
+    ensures { λ r. ⌜ r ≡ sameTransfer t u ⌝ }
+{
+    (t.front == u.front)
+        & (t.behind == u.behind)
+        & (t.bytes == u.bytes)
+        & (t.unfinished == u.unfinished)
+        & (t.pair == u.pair)
 }
 
 fn same_source_at(d: Device, e: Device, k: usize) -> bool
@@ -122,6 +133,16 @@ fn same_patterns(d: Device, e: Device) -> bool
     same_pattern(a, b) & same_pattern(f, g)
 }
 
+fn same_transfers(d: Device, e: Device) -> bool
+    ensures { λ r. ⌜ r ≡ sameTransfers d e ⌝ }
+{
+    let a = d.transfers[0];
+    let b = e.transfers[0];
+    let f = d.transfers[1];
+    let g = e.transfers[1];
+    same_transfer(a, b) & same_transfer(f, g)
+}
+
 fn same_vectors(d: Device, e: Device) -> bool
     ensures { λ r. ⌜ r ≡ sameVectors d e ⌝ }
 {
@@ -134,6 +155,7 @@ pub fn same(d: Device, e: Device) -> bool
     let vectors = same_vectors(d, e);
     let ports = same_ports(d, e);
     let patterns = same_patterns(d, e);
+    let transfers = same_transfers(d, e);
     let counters = same_counters(d, e);
     let sources = same_sources(d, e);
     (d.master == e.master)
@@ -141,6 +163,7 @@ pub fn same(d: Device, e: Device) -> bool
         & vectors
         & ports
         & patterns
+        & transfers
         & counters
         & sources
         & (d.iei == e.iei)

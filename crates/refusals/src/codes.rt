@@ -4,7 +4,7 @@ ghost use mathlib.Core.Bool.{_&&_, cond};
 ghost use Rattle.basics.specs.Signs.{if_then_else_, _==_};
 ghost use Rattle.rules.specs.Registers.{readOnly, later};
 ghost use Rattle.rules.specs.Interrupts.{requester};
-ghost use Rattle.rules.specs.Events.{isW, isK, unknown, noRegister, tooLarge, held, codeOf};
+ghost use Rattle.rules.specs.Events.{isW, isK, unknown, noRegister, tooLarge, held, noByte, codeOf};
 use crate::settings;
 use crate::soundness::sound;
 use rules::Device;
@@ -59,6 +59,17 @@ fn is_unrequested(d: Device, e: Event) -> bool
     false
 }
 
+// The read of the data of a port with handshake that holds no byte.
+fn has_no_byte(d: Device, e: Event) -> bool
+    ensures { λ r. ⌜ r ≡ noByte d e ⌝ }
+{
+    if (e.kind == Event::R) & (0x0D <= e.a) & (e.a <= 0x0E) {
+        let p = (e.a - 0x0D) as usize;
+        return ports::handshakes(d.patterns[p]) & (d.transfers[p].bytes == 0);
+    }
+    false
+}
+
 // A code where its test passes, else the code of the tests after it.
 fn or_else(refused: bool, code: u8, rest: u8) -> u8
     ensures { λ r. ⌜ r ≡ (if refused then code else rest) ⌝ }
@@ -69,13 +80,14 @@ fn or_else(refused: bool, code: u8, rest: u8) -> u8
     rest
 }
 
-// "Order: 9, 1, 2, 5, reset hold, 3, 4, 6.", from the last to the first.
+// "Order: 9, 1, 2, 5, reset hold, 3, 4, 6.", 11 after 3, from the last to the first.
 pub fn code_of(d: Device, e: Event) -> u8
     ensures { λ r. ⌜ r ≡ codeOf d e ⌝ }
 {
     let from_6 = or_else(is_unrequested(d, e), 6, 0);
     let from_4 = or_else(is_later(d, e), 4, from_6);
-    let from_3 = or_else(is_read_only(e), 3, from_4);
+    let from_11 = or_else(has_no_byte(d, e), 11, from_4);
+    let from_3 = or_else(is_read_only(e), 3, from_11);
     let from_hold = or_else(is_held(d, e), 0, from_3);
     let from_5 = or_else(is_too_large(e), 5, from_hold);
     let from_2 = or_else(has_no_register(e), 2, from_5);

@@ -1,12 +1,21 @@
 // The settings left to later requests: code 4, and "no code 4 setting" of a sound record.
 ghost use mathlib.Core.Path.{_≡_};
-ghost use Rattle.rules.specs.Registers.{laterPortMode, laterConfig, laterCounterMode, later};
+ghost use Prim.Native.Nat.{_<_};
+ghost use Rattle.rules.specs.Registers.{portOf, laterPortMode, laterHandshake, laterConfig, laterCounterMode, later};
 use rules::Device;
 
 pub(crate) fn later_port_mode(b: u32) -> bool
     ensures { λ r. ⌜ r ≡ laterPortMode b ⌝ }
 {
-    !(b / 64 == 0) | (b / 2 % 4 == 3) | (b % 2 == 1)
+    (1 < b / 64) | (b / 2 % 4 == 3) | (b % 2 == 1)
+}
+
+// Whether the registers of a port with handshake hold a setting left to later requests together.
+pub(crate) fn later_handshake(m: u32, h: u32) -> bool
+    ensures { λ r. ⌜ r ≡ laterHandshake m h ⌝ }
+{
+    let both = (m / 32 % 2 == 1) & (m / 16 % 2 == 1);
+    (m / 64 == 1) & (!(m / 2 % 8 == 0) | both | (1 < h / 64) | !(h / 8 % 8 == 0))
 }
 
 pub(crate) fn later_config(b: u32) -> bool
@@ -21,14 +30,23 @@ pub(crate) fn later_counter_mode(b: u32) -> bool
     b % 4 == 3
 }
 
+fn port_of(a: u32) -> usize
+    ensures { λ r. ⌜ (r ≡ portOf a) × (r < 2) ⌝ }
+{
+    if a < 0x28 { 0 } else { 1 }
+}
+
 // Whether the byte b is a setting left to later requests at the address a of the device.
 pub(crate) fn later(d: Device, a: u32, b: u32) -> bool
     ensures { λ r. ⌜ r ≡ later d a b ⌝ }
 {
-    let port_mode = later_port_mode(b);
+    let q = d.patterns[port_of(a)];
+    let port_mode = later_port_mode(b) | later_handshake(b, q.handshake as u32);
+    let handshake = later_handshake(q.mode as u32, b);
     let config = later_config(b);
     let counter_mode = later_counter_mode(b);
     (((a == 0x20) | (a == 0x28)) & port_mode)
+        | (((a == 0x21) | (a == 0x29)) & handshake)
         | ((a == 0x01) & config)
         | ((0x1C <= a) & (a <= 0x1E) & counter_mode)
 }

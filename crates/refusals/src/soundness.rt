@@ -3,13 +3,15 @@ ghost use mathlib.Core.Path.{_≡_};
 ghost use Prim.Native.Nat.{_<_};
 ghost use Rattle.rules.specs.Record.{counterAt, sourceAt};
 ghost use Rattle.rules.specs.Registers.{counterEnabled};
-ghost use Rattle.rules.specs.Sound.{fourBits, noLater, soundSource, soundCounter, soundPort, soundPortAt, pmfOnly, resetOnly, soundSources, soundCounters, soundPorts, soundPatterns, soundOf};
+ghost use Rattle.rules.specs.Sound.{fourBits, laterPort, noLater, soundSource, soundCounter, soundPort, soundPortAt, pmfOnly, heldOnly, soundTransfer, soundTransferAt};
+ghost use Rattle.rules.specs.Sound.{resetOnly, soundSources, soundCounters, soundPorts, soundPatterns, soundTransfers, soundOf};
 use crate::settings;
 use rules::Counter;
 use rules::Device;
 use rules::Pattern;
 use rules::Port;
 use rules::Source;
+use rules::Transfer;
 
 fn sound_source(s: Source) -> bool
     ensures { λ r. ⌜ r ≡ soundSource s ⌝ }
@@ -87,8 +89,11 @@ fn sound_port_at(d: Device, p: usize) -> bool
     requires { ⌜ p < 3 ⌝ }
     ensures { λ r. ⌜ r ≡ soundPortAt d p ⌝ }
 {
-    let q = d.ports[p];
-    sound_port(levels::port_enabled(d, p), q, levels::path_at(d, p))
+    sound_port(
+        levels::port_enabled(d, p),
+        levels::effective_at(d, p),
+        levels::path_at(d, p),
+    )
 }
 
 fn sound_ports(d: Device) -> bool
@@ -106,18 +111,56 @@ fn sound_patterns(d: Device) -> bool
     pmf_only(levels::port_enabled(d, 0), a) & pmf_only(levels::port_enabled(d, 1), b)
 }
 
+// A port that has no handshake, or is disabled, holds nothing.
+fn held_only(enabled: bool, q: Pattern, t: Transfer) -> bool
+    ensures { λ r. ⌜ r ≡ heldOnly enabled q t ⌝ }
+{
+    (ports::handshakes(q) & enabled)
+        | ((t.front == 0) & (t.behind == 0) & (t.bytes == 0) & !t.unfinished & !t.pair)
+}
+
+fn sound_transfer(enabled: bool, q: Pattern, s: Source, t: Transfer) -> bool
+    ensures { λ r. ⌜ r ≡ soundTransfer enabled q s t ⌝ }
+{
+    let bytes = (!(t.bytes == 0) | (t.front == 0)) & (!(t.bytes < 2) | (t.behind == 0));
+    let unfinished = !t.unfinished | !(q.handshake / 64 == 1);
+    let pair = !t.pair | (s.ip & (q.mode / 32 % 2 == 1));
+    held_only(enabled, q, t) & (t.bytes <= ports::depth(q)) & bytes & unfinished & pair
+}
+
+fn sound_transfer_at(d: Device, p: usize) -> bool
+    requires { ⌜ p < 2 ⌝ }
+    ensures { λ r. ⌜ r ≡ soundTransferAt d p ⌝ }
+{
+    let s = d.sources[Source::of_port(p)];
+    sound_transfer(levels::port_enabled(d, p), d.patterns[p], s, d.transfers[p])
+}
+
+fn sound_transfers(d: Device) -> bool
+    ensures { λ r. ⌜ r ≡ soundTransfers d ⌝ }
+{
+    sound_transfer_at(d, 0) & sound_transfer_at(d, 1)
+}
+
 fn wide(b: u8) -> u32
     ensures { λ r. ⌜ r ≡ b ⌝ }
 {
     b as u32
 }
 
+fn later_port(q: Pattern) -> bool
+    ensures { λ r. ⌜ r ≡ laterPort q ⌝ }
+{
+    settings::later_port_mode(wide(q.mode))
+        | settings::later_handshake(wide(q.mode), wide(q.handshake))
+}
+
 fn no_later(d: Device) -> bool
     ensures { λ r. ⌜ r ≡ noLater d ⌝ }
 {
     !settings::later_config(wide(d.config))
-        & !settings::later_port_mode(wide(d.patterns[0].mode))
-        & !settings::later_port_mode(wide(d.patterns[1].mode))
+        & !later_port(d.patterns[0])
+        & !later_port(d.patterns[1])
         & !settings::later_counter_mode(wide(d.counters[0].mode))
         & !settings::later_counter_mode(wide(d.counters[1].mode))
         & !settings::later_counter_mode(wide(d.counters[2].mode))
@@ -140,5 +183,6 @@ pub fn sound(d: Device) -> bool
         & sound_counters(d)
         & sound_ports(d)
         & sound_patterns(d)
+        & sound_transfers(d)
         & reset_only(d)
 }

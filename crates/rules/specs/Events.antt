@@ -1,6 +1,6 @@
 -- Paper 01, "Events and their answers".
 -- Assumes nothing.
-use Prim.Native.Nat.{ℕ, _%_}
+use Prim.Native.Nat.{ℕ, _-_}
 use mathlib.Core.Bool.{Bool, true, false, not, _&&_, _||_, cond}
 use mathlib.Core.List.{List, [], _∷_}
 use lib.Dec.{eqb, ltb, leb}
@@ -12,12 +12,14 @@ use Rattle.rules.specs.declared.Outcome.{Outcome}
 use Rattle.rules.specs.declared.Effect.{Effect}
 use Rattle.rules.specs.With.{withOutside, withPorts, withIei}
 use Rattle.rules.specs.Record.{registerCount, portAt, resetOf}
+use Rattle.rules.specs.Handshakes.{irfAt}
+use Rattle.rules.specs.Moves.{movesOf}
 use Rattle.rules.specs.Report.{noReport}
 use Rattle.rules.specs.Registers.{kindOf, reset, readOnly, later}
 use Rattle.rules.specs.PortData.{pinsAt}
 use Rattle.rules.specs.Interrupts.{requester, intOf, ieoOf, acknowledged, acknowledge}
 use Rattle.rules.specs.Step.{stepOf, ranOf}
-use Rattle.rules.specs.Access.{readOf, afterRead, writtenOf}
+use Rattle.rules.specs.Access.{readOf, readsByte, afterRead, writtenOf}
 use Rattle.rules.specs.Sound.{soundOf}
 
 -- "X .. W .. R .. P .. T .. K .. E .. Kinds are numbered 0 to 6 in this order."
@@ -60,7 +62,11 @@ tooLarge e =
 unfoldable pub held : Device → Event → Bool
 held d e = reset d && isW e && not (e .a == 0x00)
 
--- "Order: 9, 1, 2, 5, reset hold, 3, 4, 6."
+-- paper 02, W-203: "11 for a data read with IRF 0", of a port with handshake
+unfoldable pub noByte : Device → Event → Bool
+noByte d e = isR e && readsByte d (e .a) && not (irfAt d (e .a - 0x0D))
+
+-- "Order: 9, 1, 2, 5, reset hold, 3, 4, 6."; 11 "after 3"
 unfoldable pub codeOf : Device → Event → ℕ
 codeOf d e =
     if not (soundOf d) then 9 else
@@ -69,6 +75,7 @@ codeOf d e =
     if tooLarge e then 5 else
     if held d e then 0 else
     if isW e && readOnly (e .a) then 3 else
+    if noByte d e then 11 else
     if isW e && later d (e .a) (e .b) then 4 else
     if isK e && requester d == 5 then 6 else
     0
@@ -79,7 +86,9 @@ effect d v = record { device = d; value = v; report = noReport }
 
 -- "W address byte": a step; "While RESET is 1, other writes are accepted with no effect"
 unfoldable pub writeEffect : Device → ℕ → ℕ → Effect
-writeEffect d a b = if reset d && not (a == 0x00) then effect d 0 else effect (stepOf false d (writtenOf d (kindOf a) b) .device) 0
+writeEffect d a b =
+    if reset d && not (a == 0x00) then effect d 0 else
+    effect (stepOf false d (movesOf d (writtenOf d (kindOf a) b)) .device) 0
 
 -- "R address": under RESET "other registers (1FH too) read 0"
 unfoldable pub readEffect : Device → ℕ → Effect
@@ -91,7 +100,7 @@ outsideSet d a b c =
     withPorts d (withOutside (portAt d 0) a ∷ withOutside (portAt d 1) b ∷ withOutside (portAt d 2) c ∷ [])
 
 unfoldable pub pinsEffect : Device → ℕ → ℕ → ℕ → Effect
-pinsEffect d a b c = effect (stepOf false d (outsideSet d a b c) .device) 0
+pinsEffect d a b c = effect (stepOf false d (movesOf d (outsideSet d a b c)) .device) 0
 
 -- "T n: n PCLK clocks."
 unfoldable pub clocksEffect : Device → ℕ → Effect

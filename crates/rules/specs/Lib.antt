@@ -2,9 +2,11 @@ pub mod With
 pub mod Record
 pub mod Report
 pub mod Registers
+pub mod Handshakes
 pub mod Counters
 pub mod PortData
 pub mod Patterns
+pub mod Moves
 pub mod Interrupts
 pub mod Step
 pub mod Access

@@ -1,6 +1,6 @@
 -- Paper 01, "Port data": for one bit, then for the byte of a port.
 -- Assumes nothing.
-use Prim.Native.Nat.{ℕ, _+_}
+use Prim.Native.Nat.{ℕ, _+_, _-_, _/_, _%_}
 use mathlib.Core.Bool.{Bool, true, false, not, _&&_, _||_, cond}
 use lib.Dec.{eqb, ltb}
 use Rattle.rules.specs.declared.Device.{Device}
@@ -8,9 +8,10 @@ use Rattle.rules.specs.declared.Counter.{Counter}
 use Rattle.rules.specs.declared.Port.{Port}
 use Rattle.basics.specs.Signs.{if_then_else_, _==_}
 use Rattle.basics.specs.Byte.{bit, differs, byteOf}
-use Rattle.rules.specs.With.{withOutput, withCatcher}
-use Rattle.rules.specs.Record.{portAt, counterAt}
+use Rattle.rules.specs.With.{withDirection, withSpecial, withOutput, withCatcher}
+use Rattle.rules.specs.Record.{portAt, patternAt, transferAt, counterAt}
 use Rattle.rules.specs.Registers.{portEnabled}
+use Rattle.rules.specs.Handshakes.{handshakes, readyAt, isLine}
 use Rattle.rules.specs.Counters.{outputEnabled, outputOf}
 
 -- "An enabled port's output drives its value XOR polarity; open-drain (special 1) drives only low.
@@ -57,31 +58,57 @@ unfoldable pub levelOf : Port → ℕ → ℕ
 levelOf q pins = byteOf (λ k. differs (bit pins k) (bit (q .polarity) k))
 
 -- ---- the ports of the device: 0 is A, 1 is B, 2 is C
+-- Paper 02, W-203: the direction that is in effect. A port with handshake has inputs, of its lines ACKIN is one and RFD an output,
+-- "whatever direction and special registers hold".
+unfoldable pub directionAt : Device → ℕ → ℕ
+directionAt d p =
+    if p == 2 then byteOf (λ k. if isLine d k then k % 2 == 0 else bit (portAt d p .direction) k) else
+    if handshakes (patternAt d p) then 0xFF else
+    portAt d p .direction
+
+-- "these bits have no catcher": special 1 is in effect at none of them but RFD, an output
+unfoldable pub specialAt : Device → ℕ → ℕ
+specialAt d p =
+    if p == 2 then byteOf (λ k. not (isLine d k && k % 2 == 0) && bit (portAt d p .special) k) else
+    if handshakes (patternAt d p) then 0x00 else
+    portAt d p .special
+
+-- the port with what is in effect
+abbrev pub effectiveAt : Device → ℕ → Port
+effectiveAt d p = withSpecial (withDirection (portAt d p) (directionAt d p)) (specialAt d p)
+
 -- "An enabled output stands, unstored, for the data bit": the byte x with c's output at Dk
 unfoldable pub standing : Counter → ℕ → ℕ → ℕ
 standing c k x = byteOf (λ j. if j == k && outputEnabled c then outputOf c else bit x j)
 
--- "CT1 output .. PB4 ..; CT2 PB0 ..; CT3 PC0": the value that port p puts out
+-- the byte x of Port C with the ready lines in their places
+unfoldable pub lined : Device → ℕ → ℕ
+lined d x = byteOf (λ k. if isLine d k && k % 2 == 1 then readyAt d (1 - k / 2) else bit x k)
+
+-- "CT1 output .. PB4 ..; CT2 PB0 ..; CT3 PC0": the value that port p puts out. ("No counter output stands for a bit of a handshake
+-- port or of its lines": those at which one could stand are inputs, which put nothing out.)
 unfoldable pub valueAt : Device → ℕ → ℕ
 valueAt d p =
     if p == 0 then portAt d p .output else
     if p == 1 then standing (counterAt d 0) 4 (standing (counterAt d 1) 0 (portAt d p .output)) else
-    standing (counterAt d 2) 0 (portAt d p .output)
+    lined d (standing (counterAt d 2) 0 (portAt d p .output))
 
 unfoldable pub pinsAt : Device → ℕ → ℕ
-pinsAt d p = pinsOf (portEnabled d p) (portAt d p) (valueAt d p)
+pinsAt d p = pinsOf (portEnabled d p) (effectiveAt d p) (valueAt d p)
 
 unfoldable pub pathAt : Device → ℕ → ℕ
-pathAt d p = pathOf (portAt d p) (pinsAt d p) (valueAt d p)
+pathAt d p = pathOf (effectiveAt d p) (pinsAt d p) (valueAt d p)
 
 -- the path values with the catchers in their places
 unfoldable pub seenAt : Device → ℕ → ℕ
-seenAt d p = seenOf (portEnabled d p) (portAt d p) (pathAt d p)
+seenAt d p = seenOf (portEnabled d p) (effectiveAt d p) (pathAt d p)
 
--- "A and B read path values, outputs included; C reads pin XOR polarity."
+-- "A and B read path values, outputs included; C reads pin XOR polarity." A port with handshake reads its front byte.
 unfoldable pub dataAt : Device → ℕ → ℕ
 dataAt d p =
-    if p == 2 then seenOf (portEnabled d p) (portAt d p) (levelOf (portAt d p) (pinsAt d p)) else seenAt d p
+    if p == 2 then seenOf (portEnabled d p) (effectiveAt d p) (levelOf (portAt d p) (pinsAt d p)) else
+    if handshakes (patternAt d p) then transferAt d p .front else
+    seenAt d p
 
 -- ---- a write of data
 -- "Other writes to input bits do nothing."
@@ -92,15 +119,15 @@ outputBit opened input new old = if opened && not input then new else old
 unfoldable pub clearedBit : Bool → Bool → Bool → Bool
 clearedBit opened new old = old && not (opened && not new)
 
--- the port q with the byte b written to the bits that are opened
-unfoldable pub putOf : Port → (ℕ → Bool) → ℕ → Port
-putOf q opened b =
+-- the port q, with that direction in effect, with the byte b written to the bits that are opened
+unfoldable pub putOf : Port → ℕ → (ℕ → Bool) → ℕ → Port
+putOf q direction opened b =
     withOutput (withCatcher q (byteOf (λ k. clearedBit (opened k) (bit b k) (bit (q .catcher) k))))
-    (byteOf (λ k. outputBit (opened k) (bit (q .direction) k) (bit b k) (bit (q .output) k)))
+    (byteOf (λ k. outputBit (opened k) (bit direction k) (bit b k) (bit (q .output) k)))
 
 -- "Port C data: D7-D4 protect D3-D0, catchers included."
 unfoldable pub unprotected : ℕ → ℕ → ℕ → Bool
 unprotected p b k = if p == 2 then ltb k 4 && not (bit b (k + 4)) else true
 
-unfoldable pub writtenData : Port → ℕ → ℕ → Port
-writtenData q p b = putOf q (unprotected p b) b
+unfoldable pub writtenData : Port → ℕ → ℕ → ℕ → Port
+writtenData q direction p b = putOf q direction (unprotected p b) b

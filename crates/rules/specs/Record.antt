@@ -9,8 +9,9 @@ use Rattle.rules.specs.declared.Source.{Source}
 use Rattle.rules.specs.declared.Counter.{Counter}
 use Rattle.rules.specs.declared.Port.{Port}
 use Rattle.rules.specs.declared.Pattern.{Pattern}
+use Rattle.rules.specs.declared.Transfer.{Transfer}
 use Rattle.rules.specs.declared.Device.{Device}
-use Rattle.rules.specs.With.{device}
+use Rattle.rules.specs.With.{transfer, device}
 
 -- "the 84 and the 48 are named once, with the device"
 abbrev pub imageLen : ℕ
@@ -32,7 +33,10 @@ bare levels = record { polarity = 0; direction = 0; special = 0; output = 0; out
 abbrev pub blank : Pattern
 blank = record { mode = 0; handshake = 0; polarity = 0; transition = 0; mask = 0; ioe = false; pmf = false }
 
--- ---- the parts by their place: vectors A, B, CT; ports A, B, C; patterns A, B; counters 1, 2, 3; sources CT3, A, CT2, B, CT1.
+abbrev pub vacant : Transfer
+vacant = transfer 0 0 0 false false
+
+-- ---- the parts by their place: vectors A, B, CT; ports A, B, C; patterns and transfers A, B; counters 1, 2, 3; sources CT3, A, CT2, B, CT1.
 -- Past its end an array reads as an empty part.
 abbrev pub vectorAt : Device → ℕ → ℕ
 vectorAt d v = getD (d .vectors) v 0
@@ -42,6 +46,9 @@ portAt d p = getD (d .ports) p (bare 0)
 
 abbrev pub patternAt : Device → ℕ → Pattern
 patternAt d p = getD (d .patterns) p blank
+
+abbrev pub transferAt : Device → ℕ → Transfer
+transferAt d p = getD (d .transfers) p vacant
 
 abbrev pub counterAt : Device → ℕ → Counter
 counterAt d i = getD (d .counters) i idle
@@ -60,7 +67,7 @@ ofCounter i = 4 - 2 * i
 -- with these outside levels and this IEI
 abbrev pub resetTo : ℕ → ℕ → ℕ → Bool → Device
 resetTo a b c v =
-    device 0x01 0x00 (0 ∷ 0 ∷ 0 ∷ []) (bare a ∷ bare b ∷ bare c ∷ []) (blank ∷ blank ∷ []) (idle ∷ idle ∷ idle ∷ [])
+    device 0x01 0x00 (0 ∷ 0 ∷ 0 ∷ []) (bare a ∷ bare b ∷ bare c ∷ []) (blank ∷ blank ∷ []) (vacant ∷ vacant ∷ []) (idle ∷ idle ∷ idle ∷ [])
     (quiet ∷ quiet ∷ quiet ∷ quiet ∷ quiet ∷ []) v false
 
 unfoldable pub resetOf : Device → Device
@@ -75,5 +82,6 @@ pub record Shaped (d : Device) : Type 0 where
   pub vectors : length (d .vectors) ≡ 3
   pub ports : length (d .ports) ≡ 3
   pub patterns : length (d .patterns) ≡ 2
+  pub transfers : length (d .transfers) ≡ 2
   pub counters : length (d .counters) ≡ 3
   pub sources : length (d .sources) ≡ 5

@@ -13,7 +13,7 @@ use Rattle.rules.specs.declared.Pattern.{Pattern}
 use Rattle.rules.specs.declared.Kind.{Kind}
 use Rattle.rules.specs.declared.Kind.the-variants.{Master, Config, Vector, Polarity, Direction, Special, PortCommand, CounterCommand, Data}
 use Rattle.rules.specs.declared.Kind.the-variants.{Current, Constant, CounterMode, CurrentVector, PortMode, Handshake, PatternPolarity, Transition, Mask, Absent}
-use Rattle.rules.specs.Record.{registerCount}
+use Rattle.rules.specs.Record.{registerCount, patternAt}
 use Rattle.rules.specs.With.{withIus, withIe, withIp, withErr, withHidden}
 
 -- "20-27 Port A mode, handshake, polarity, direction, special, pattern polarity, transition, mask; 28-2F Port B likewise."
@@ -70,8 +70,12 @@ abbrev pub reset : Device → Bool
 reset d = bit (d .master) 0
 
 -- "01 Master Configuration: Port B, CT1, CT2, Port C with CT3 enables, D3 link, D2 Port A enable, D1-D0 LC."
-unfoldable pub portEnabled : Device → ℕ → Bool
-portEnabled d p = if p == 0 then bit (d .config) 2 else if p == 1 then bit (d .config) 7 else bit (d .config) 4
+-- whether a configuration enables port p
+unfoldable pub portOn : ℕ → ℕ → Bool
+portOn config p = if p == 0 then bit config 2 else if p == 1 then bit config 7 else bit config 4
+
+abbrev pub portEnabled : Device → ℕ → Bool
+portEnabled d p = portOn (d .config) p
 
 -- whether a configuration enables counter i
 unfoldable pub counterOn : ℕ → ℕ → Bool
@@ -92,9 +96,14 @@ kept p b = if p == 2 then b % 16 else b
 unfoldable pub readOnly : ℕ → Bool
 readOnly a = within 0x10 0x15 a || a == 0x1F
 
--- "20H/28H with D7-D6 not 00, D2-D1 = 11 or D0 = 1"
+-- "20H/28H with D7-D6 not 00, D2-D1 = 11 or D0 = 1". Paper 02, W-203: "Code 4 no longer covers D7-D6 = 01."
 unfoldable pub laterPortMode : ℕ → Bool
-laterPortMode b = not (b / 64 == 0) || b / 2 % 4 == 3 || bit b 0
+laterPortMode b = ltb 1 (b / 64) || b / 2 % 4 == 3 || bit b 0
+
+-- "It now covers a handshake port with D3-D1 not 000, with ITB and SB, or whose register 21H or 29H has D7-D6 = 10 or 11 (Pulsed,
+-- 3-Wire) or D5-D3 not 000 (REQUEST/WAIT)": of the bytes of both registers
+unfoldable pub laterHandshake : ℕ → ℕ → Bool
+laterHandshake m h = m / 64 == 1 && (not (m / 2 % 8 == 0) || (bit m 5 && bit m 4) || ltb 1 (h / 64) || not (h / 8 % 8 == 0))
 
 -- "01H with D3 = 1"
 unfoldable pub laterConfig : ℕ → Bool
@@ -104,10 +113,16 @@ laterConfig b = bit b 3
 unfoldable pub laterCounterMode : ℕ → Bool
 laterCounterMode b = b % 4 == 3
 
--- 4: "Code 4 is for" those: the byte b to address a of the device d
+-- "20-27 Port A ..; 28-2F Port B"
+unfoldable pub portOf : ℕ → ℕ
+portOf a = if ltb a 0x28 then 0 else 1
+
+-- 4: "Code 4 is for" those: the byte b to address a of the device d; of a handshake port "whichever register is written last"
 unfoldable pub later : Device → ℕ → ℕ → Bool
 later d a b =
-    ((a == 0x20 || a == 0x28) && laterPortMode b) || (a == 0x01 && laterConfig b) || (within 0x1C 0x1E a && laterCounterMode b)
+    ((a == 0x20 || a == 0x28) && (laterPortMode b || laterHandshake b (patternAt d (portOf a) .handshake)))
+    || ((a == 0x21 || a == 0x29) && laterHandshake (patternAt d (portOf a) .mode) b)
+    || (a == 0x01 && laterConfig b) || (within 0x1C 0x1E a && laterCounterMode b)
 
 -- ---- the command registers
 -- "Clearing IP clears ERR; with the hidden error set, IP and ERR become 1 and the hidden error 0."
@@ -130,9 +145,9 @@ commanded s n =
 unfoldable pub statusOf : Source → ℕ
 statusOf s = (if s .ius then 128 else 0) + (if s .ie then 64 else 0) + (if s .ip then 32 else 0) + (if s .err then 16 else 0)
 
--- "Port: D1 PMF, D0 IOE (written), D3-D2 read 0."
-abbrev pub portCommandOf : Source → Pattern → ℕ
-portCommandOf s q = statusOf s + ((if q .pmf then 2 else 0) + (if q .ioe then 1 else 0))
+-- "Port: D1 PMF, D0 IOE (written), D3-D2 read 0." Paper 02, W-203: "IRF is D2 of the command register".
+abbrev pub portCommandOf : Source → Pattern → Bool → ℕ
+portCommandOf s q irf = statusOf s + ((if irf then 4 else 0) + (if q .pmf then 2 else 0) + (if q .ioe then 1 else 0))
 
 -- "Counter: D3 RCC, D2 GCB, D1 trigger (reads 0), D0 CIP."
 abbrev pub counterCommandOf : Source → Counter → ℕ

@@ -2,17 +2,19 @@
 -- Assumes nothing.
 use Prim.Native.Nat.{ℕ}
 use mathlib.Core.Bool.{Bool, true, false, not, _&&_, _||_, Bool·beq, cond}
-use lib.Dec.{eqb, ltb}
+use lib.Dec.{eqb, ltb, leb}
 use Rattle.rules.specs.declared.Device.{Device}
 use Rattle.rules.specs.declared.Source.{Source}
 use Rattle.rules.specs.declared.Counter.{Counter}
 use Rattle.rules.specs.declared.Port.{Port}
 use Rattle.rules.specs.declared.Pattern.{Pattern}
+use Rattle.rules.specs.declared.Transfer.{Transfer}
 use Rattle.basics.specs.Signs.{_==_}
 use Rattle.basics.specs.Byte.{bit, every, any}
-use Rattle.rules.specs.Record.{vectorAt, portAt, patternAt, counterAt, sourceAt, resetOf}
-use Rattle.rules.specs.Registers.{reset, portEnabled, counterEnabled, laterConfig, laterPortMode, laterCounterMode}
-use Rattle.rules.specs.PortData.{catchesAt, pathAt}
+use Rattle.rules.specs.Record.{vectorAt, portAt, patternAt, transferAt, counterAt, sourceAt, vacant, ofPort, resetOf}
+use Rattle.rules.specs.Registers.{reset, portEnabled, counterEnabled, laterConfig, laterPortMode, laterHandshake, laterCounterMode}
+use Rattle.rules.specs.Handshakes.{handshakes, itb, strobed, depth}
+use Rattle.rules.specs.PortData.{catchesAt, effectiveAt, pathAt}
 use Rattle.rules.specs.Patterns.{isAnd, isOr, onAt}
 
 -- if the first, the second
@@ -25,10 +27,13 @@ fourBits q =
     ltb (q .polarity) 16 && ltb (q .direction) 16 && ltb (q .special) 16 && ltb (q .output) 16 && ltb (q .outside) 16 && ltb (q .catcher) 16
 
 -- "no code 4 setting"
+abbrev pub laterPort : Pattern → Bool
+laterPort q = laterPortMode (q .mode) || laterHandshake (q .mode) (q .handshake)
+
 unfoldable pub noLater : Device → Bool
 noLater d =
     not (laterConfig (d .config))
-    && not (laterPortMode (patternAt d 0 .mode)) && not (laterPortMode (patternAt d 1 .mode))
+    && not (laterPort (patternAt d 0)) && not (laterPort (patternAt d 1))
     && not (laterCounterMode (counterAt d 0 .mode)) && not (laterCounterMode (counterAt d 1 .mode)) && not (laterCounterMode (counterAt d 2 .mode))
 
 -- "ERR only with IP"
@@ -72,6 +77,34 @@ soundPort enabled q path = catcherOnly enabled q && catcherSet enabled q path
 unfoldable pub pmfOnly : Bool → Pattern → Bool
 pmfOnly enabled p = only (p .pmf) (enabled && (isAnd p || isOr p) && any (onAt p))
 
+-- ---- paper 02, W-203: what a port with handshake may hold
+unfoldable pub sameTransfer : Transfer → Transfer → Bool
+sameTransfer t u =
+    t .front == u .front && t .behind == u .behind && t .bytes == u .bytes && Bool·beq (t .unfinished) (u .unfinished) && Bool·beq (t .pair) (u .pair)
+
+-- bit ports, and those that are disabled, hold none of it
+unfoldable pub heldOnly : Bool → Pattern → Transfer → Bool
+heldOnly enabled q t = only (not (handshakes q && enabled)) (sameTransfer t vacant)
+
+-- "two bytes deep, one with SB"
+unfoldable pub roomOnly : Pattern → Transfer → Bool
+roomOnly q t = leb (t .bytes) (depth q)
+
+-- "bytes not held are 0"
+unfoldable pub bytesOnly : Transfer → Bool
+bytesOnly t = only (t .bytes == 0) (t .front == 0) && only (ltb (t .bytes) 2) (t .behind == 0)
+
+-- a transfer is unfinished only Interlocked
+unfoldable pub unfinishedOnly : Pattern → Transfer → Bool
+unfinishedOnly q t = only (t .unfinished) (not (strobed q))
+
+-- "a pair half done, 1 only while IP and ITB are 1"
+unfoldable pub pairOnly : Pattern → Source → Transfer → Bool
+pairOnly q s t = only (t .pair) (s .ip && itb q)
+
+unfoldable pub soundTransfer : Bool → Pattern → Source → Transfer → Bool
+soundTransfer enabled q s t = heldOnly enabled q t && roomOnly q t && bytesOnly t && unfinishedOnly q t && pairOnly q s t
+
 -- ---- two records are the same
 unfoldable pub sameSource : Source → Source → Bool
 sameSource s t =
@@ -92,6 +125,7 @@ samePattern q r =
     q .mode == r .mode && q .handshake == r .handshake && q .polarity == r .polarity
     && q .transition == r .transition && q .mask == r .mask && Bool·beq (q .ioe) (r .ioe) && Bool·beq (q .pmf) (r .pmf)
 
+-- at every place of their arrays
 unfoldable pub sameSources : Device → Device → Bool
 sameSources d e =
     sameSource (sourceAt d 0) (sourceAt e 0) && sameSource (sourceAt d 1) (sourceAt e 1) && sameSource (sourceAt d 2) (sourceAt e 2)
@@ -108,6 +142,9 @@ samePorts d e =
 unfoldable pub samePatterns : Device → Device → Bool
 samePatterns d e = samePattern (patternAt d 0) (patternAt e 0) && samePattern (patternAt d 1) (patternAt e 1)
 
+unfoldable pub sameTransfers : Device → Device → Bool
+sameTransfers d e = sameTransfer (transferAt d 0) (transferAt e 0) && sameTransfer (transferAt d 1) (transferAt e 1)
+
 unfoldable pub sameVectors : Device → Device → Bool
 sameVectors d e =
     vectorAt d 0 == vectorAt e 0 && vectorAt d 1 == vectorAt e 1 && vectorAt d 2 == vectorAt e 2
@@ -115,7 +152,7 @@ sameVectors d e =
 unfoldable pub sameOf : Device → Device → Bool
 sameOf d e =
     d .master == e .master && d .config == e .config && sameVectors d e && samePorts d e && samePatterns d e
-    && sameCounters d e && sameSources d e && Bool·beq (d .iei) (e .iei) && Bool·beq (d .phase) (e .phase)
+    && sameTransfers d e && sameCounters d e && sameSources d e && Bool·beq (d .iei) (e .iei) && Bool·beq (d .phase) (e .phase)
 
 -- "under RESET all as reset leaves it"
 unfoldable pub resetOnly : Device → Bool
@@ -131,7 +168,7 @@ soundCounters d =
     soundCounter (counterEnabled d 0) (counterAt d 0) && soundCounter (counterEnabled d 1) (counterAt d 1) && soundCounter (counterEnabled d 2) (counterAt d 2)
 
 unfoldable pub soundPortAt : Device → ℕ → Bool
-soundPortAt d p = soundPort (portEnabled d p) (portAt d p) (pathAt d p)
+soundPortAt d p = soundPort (portEnabled d p) (effectiveAt d p) (pathAt d p)
 
 unfoldable pub soundPorts : Device → Bool
 soundPorts d = fourBits (portAt d 2) && soundPortAt d 0 && soundPortAt d 1 && soundPortAt d 2
@@ -139,5 +176,11 @@ soundPorts d = fourBits (portAt d 2) && soundPortAt d 0 && soundPortAt d 1 && so
 unfoldable pub soundPatterns : Device → Bool
 soundPatterns d = pmfOnly (portEnabled d 0) (patternAt d 0) && pmfOnly (portEnabled d 1) (patternAt d 1)
 
+unfoldable pub soundTransferAt : Device → ℕ → Bool
+soundTransferAt d p = soundTransfer (portEnabled d p) (patternAt d p) (sourceAt d (ofPort p)) (transferAt d p)
+
+unfoldable pub soundTransfers : Device → Bool
+soundTransfers d = soundTransferAt d 0 && soundTransferAt d 1
+
 unfoldable pub soundOf : Device → Bool
-soundOf d = noLater d && soundSources d && soundCounters d && soundPorts d && soundPatterns d && resetOnly d
+soundOf d = noLater d && soundSources d && soundCounters d && soundPorts d && soundPatterns d && soundTransfers d && resetOnly d

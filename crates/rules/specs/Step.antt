@@ -19,7 +19,7 @@ use Rattle.rules.specs.With.{withCatcher, withPmf, withPorts, withPatter
 use Rattle.rules.specs.Record.{portAt, patternAt, counterAt, sourceAt, ofPort, ofCounter}
 use Rattle.rules.specs.Report.{noReport, reportsAdded, stepReport}
 use Rattle.rules.specs.Registers.{portEnabled, counterEnabled, lc, reset}
-use Rattle.rules.specs.PortData.{caughtOf, pathAt, seenAt}
+use Rattle.rules.specs.PortData.{caughtOf, effectiveAt, pathAt, seenAt}
 use Rattle.rules.specs.Counters.{outputOf, unlinked, linkOf, reachOf, turnOf}
 use Rattle.rules.specs.Patterns.{matchOf}
 use Rattle.rules.specs.Interrupts.{fateOf, afterFate, came, wasLost}
@@ -47,7 +47,7 @@ counterTurn link timer were are i d =
 
 -- (e): the catchers of port p, and of all
 unfoldable pub caughtAt : Device → ℕ → Port
-caughtAt d p = withCatcher (portAt d p) (caughtOf (portEnabled d p) (portAt d p) (pathAt d p))
+caughtAt d p = withCatcher (portAt d p) (caughtOf (portEnabled d p) (effectiveAt d p) (pathAt d p))
 
 unfoldable pub catchers : Device → Device
 catchers d = withPorts d (caughtAt d 0 ∷ caughtAt d 1 ∷ caughtAt d 2 ∷ [])

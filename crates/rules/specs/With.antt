@@ -9,6 +9,7 @@ use Rattle.rules.specs.declared.Source.{Source}
 use Rattle.rules.specs.declared.Counter.{Counter}
 use Rattle.rules.specs.declared.Port.{Port}
 use Rattle.rules.specs.declared.Pattern.{Pattern}
+use Rattle.rules.specs.declared.Transfer.{Transfer}
 use Rattle.rules.specs.declared.Device.{Device}
 
 -- ---- a source
@@ -102,15 +103,26 @@ withIoe q v = pattern (q .mode) (q .handshake) (q .polarity) (q .transition) (q 
 abbrev pub withPmf : Pattern → Bool → Pattern
 withPmf q v = pattern (q .mode) (q .handshake) (q .polarity) (q .transition) (q .mask) (q .ioe) v
 
+-- ---- what a port with handshake holds
+abbrev pub transfer : ℕ → ℕ → ℕ → Bool → Bool → Transfer
+transfer f b n u h = record { front = f; behind = b; bytes = n; unfinished = u; pair = h }
+
+abbrev pub withUnfinished : Transfer → Bool → Transfer
+withUnfinished t v = transfer (t .front) (t .behind) (t .bytes) v (t .pair)
+
+abbrev pub withPair : Transfer → Bool → Transfer
+withPair t v = transfer (t .front) (t .behind) (t .bytes) (t .unfinished) v
+
 -- ---- the device, of its parts in the struct's order
-abbrev pub device : ℕ → ℕ → List ℕ → List Port → List Pattern → List Counter → List Source → Bool → Bool → Device
-device m f vs qs ps cs ss i h =
+abbrev pub device : ℕ → ℕ → List ℕ → List Port → List Pattern → List Transfer → List Counter → List Source → Bool → Bool → Device
+device m f vs qs ps ts cs ss i h =
     record {
       master = m;
       config = f;
       vectors = vs;
       ports = qs;
       patterns = ps;
+      transfers = ts;
       counters = cs;
       sources = ss;
       iei = i;
@@ -118,31 +130,35 @@ device m f vs qs ps cs ss i h =
     }
 
 abbrev pub withMaster : Device → ℕ → Device
-withMaster d v = device v (d .config) (d .vectors) (d .ports) (d .patterns) (d .counters) (d .sources) (d .iei) (d .phase)
+withMaster d v = device v (d .config) (d .vectors) (d .ports) (d .patterns) (d .transfers) (d .counters) (d .sources) (d .iei) (d .phase)
 
 abbrev pub withConfig : Device → ℕ → Device
-withConfig d v = device (d .master) v (d .vectors) (d .ports) (d .patterns) (d .counters) (d .sources) (d .iei) (d .phase)
+withConfig d v = device (d .master) v (d .vectors) (d .ports) (d .patterns) (d .transfers) (d .counters) (d .sources) (d .iei) (d .phase)
 
 abbrev pub withVectors : Device → List ℕ → Device
-withVectors d v = device (d .master) (d .config) v (d .ports) (d .patterns) (d .counters) (d .sources) (d .iei) (d .phase)
+withVectors d v = device (d .master) (d .config) v (d .ports) (d .patterns) (d .transfers) (d .counters) (d .sources) (d .iei) (d .phase)
 
 abbrev pub withPorts : Device → List Port → Device
-withPorts d v = device (d .master) (d .config) (d .vectors) v (d .patterns) (d .counters) (d .sources) (d .iei) (d .phase)
+withPorts d v = device (d .master) (d .config) (d .vectors) v (d .patterns) (d .transfers) (d .counters) (d .sources) (d .iei) (d .phase)
 
 abbrev pub withPatterns : Device → List Pattern → Device
-withPatterns d v = device (d .master) (d .config) (d .vectors) (d .ports) v (d .counters) (d .sources) (d .iei) (d .phase)
+withPatterns d v = device (d .master) (d .config) (d .vectors) (d .ports) v (d .transfers) (d .counters) (d .sources) (d .iei) (d .phase)
+
+-- what the ports hold, the counters, the sources, IEI and the phase
+abbrev pub withTransfers : Device → List Transfer → Device
+withTransfers d v = device (d .master) (d .config) (d .vectors) (d .ports) (d .patterns) v (d .counters) (d .sources) (d .iei) (d .phase)
 
 abbrev pub withCounters : Device → List Counter → Device
-withCounters d v = device (d .master) (d .config) (d .vectors) (d .ports) (d .patterns) v (d .sources) (d .iei) (d .phase)
+withCounters d v = device (d .master) (d .config) (d .vectors) (d .ports) (d .patterns) (d .transfers) v (d .sources) (d .iei) (d .phase)
 
 abbrev pub withSources : Device → List Source → Device
-withSources d v = device (d .master) (d .config) (d .vectors) (d .ports) (d .patterns) (d .counters) v (d .iei) (d .phase)
+withSources d v = device (d .master) (d .config) (d .vectors) (d .ports) (d .patterns) (d .transfers) (d .counters) v (d .iei) (d .phase)
 
 abbrev pub withIei : Device → Bool → Device
-withIei d v = device (d .master) (d .config) (d .vectors) (d .ports) (d .patterns) (d .counters) (d .sources) v (d .phase)
+withIei d v = device (d .master) (d .config) (d .vectors) (d .ports) (d .patterns) (d .transfers) (d .counters) (d .sources) v (d .phase)
 
 abbrev pub withPhase : Device → Bool → Device
-withPhase d v = device (d .master) (d .config) (d .vectors) (d .ports) (d .patterns) (d .counters) (d .sources) (d .iei) v
+withPhase d v = device (d .master) (d .config) (d .vectors) (d .ports) (d .patterns) (d .transfers) (d .counters) (d .sources) (d .iei) v
 
 -- ---- one part of an array, by its place
 abbrev pub withVector : Device → ℕ → ℕ → Device
@@ -153,6 +169,9 @@ withPort d p q = withPorts d (set (d .ports) p q)
 
 abbrev pub withPattern : Device → ℕ → Pattern → Device
 withPattern d p q = withPatterns d (set (d .patterns) p q)
+
+abbrev pub withTransfer : Device → ℕ → Transfer → Device
+withTransfer d p t = withTransfers d (set (d .transfers) p t)
 
 abbrev pub withCounter : Device → ℕ → Counter → Device
 withCounter d i c = withCounters d (set (d .counters) i c)

@@ -63,7 +63,7 @@ pub struct Port {
     pub catcher: u8,
 }
 
-// What ports A and B have and C has not: mode, handshake (stored only), pattern, IOE and PMF.
+// What ports A and B have and C has not: mode, handshake, pattern, IOE and PMF.
 pub struct Pattern {
     pub mode: u8,
     pub handshake: u8,
@@ -74,7 +74,17 @@ pub struct Pattern {
     pub pmf: bool,
 }
 
-// The device. `vectors` are A, B, CT; `ports` A, B, C; `patterns` A, B; `counters` 1, 2, 3;
+// What a port with handshake holds: the front byte, the byte behind it, how many are held, a transfer that is unfinished,
+// and a pair of reads half done.
+pub struct Transfer {
+    pub front: u8,
+    pub behind: u8,
+    pub bytes: u8,
+    pub unfinished: bool,
+    pub pair: bool,
+}
+
+// The device. `vectors` are A, B, CT; `ports` A, B, C; `patterns` and `transfers` A, B; `counters` 1, 2, 3;
 // `sources` stand in their order of priority: CT3, A, CT2, B, CT1.
 pub struct Device {
     pub master: u8,
@@ -82,6 +92,7 @@ pub struct Device {
     pub vectors: [u8; 3],
     pub ports: [Port; 3],
     pub patterns: [Pattern; 2],
+    pub transfers: [Transfer; 2],
     pub counters: [Counter; 3],
     pub sources: [Source; 5],
     pub iei: bool,
@@ -114,6 +125,13 @@ impl Device {
             ioe: false,
             pmf: false,
         };
+        let transfer = Transfer {
+            front: 0,
+            behind: 0,
+            bytes: 0,
+            unfinished: false,
+            pair: false,
+        };
         let counter = Counter {
             mode: 0,
             constant: 0,
@@ -137,6 +155,7 @@ impl Device {
             vectors: [0; 3],
             ports: [port, port, port],
             patterns: [pattern, pattern],
+            transfers: [transfer, transfer],
             counters: [counter, counter, counter],
             sources: [source, source, source, source, source],
             iei: true,

@@ -10,6 +10,7 @@ use rules::Fate;
 use rules::Pattern;
 use rules::Source;
 
+// Clears IP: the hidden error comes out.
 fn clear_ip(s: Source) -> Source
     ensures { λ r. ⌜ r ≡ ipCleared s ⌝ }
 {
@@ -71,10 +72,10 @@ fn status(s: Source) -> u8
 }
 
 // What the command register of a port reads.
-pub fn port_command(s: Source, q: Pattern) -> u8
-    ensures { λ r. ⌜ r ≡ portCommandOf s q ⌝ }
+pub fn port_command(s: Source, q: Pattern, irf: bool) -> u8
+    ensures { λ r. ⌜ r ≡ portCommandOf s q irf ⌝ }
 {
-    status(s) + (basics::weight(q.pmf, 2) + basics::weight(q.ioe, 1))
+    status(s) + (basics::weight(irf, 4) + basics::weight(q.pmf, 2) + basics::weight(q.ioe, 1))
 }
 
 // What the command register of a counter reads.

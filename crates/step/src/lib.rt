@@ -149,7 +149,11 @@ fn caught_at(d: Device, p: usize) -> Port
 {
     let q = d.ports[p];
     let mut e = q;
-    e.catcher = caught(levels::port_enabled(d, p), q, levels::path_at(d, p));
+    e.catcher = caught(
+        levels::port_enabled(d, p),
+        levels::effective_at(d, p),
+        levels::path_at(d, p),
+    );
     e
 }
 

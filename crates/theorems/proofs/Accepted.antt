@@ -1,8 +1,8 @@
 -- What each accepted event does to a sound record leaves a sound record: the seven kinds, and the clocks.
 -- Assumes nothing.
-use Prim.Native.Nat.{ℕ, zero, suc, _<_}
+use Prim.Native.Nat.{ℕ, zero, suc, _-_, _<_}
 use mathlib.Core.Path.{_≡_, refl, sym, subst, _∙_}
-use mathlib.Core.Bool.{Bool, true, false, not, _&&_, _||_, cond, So, true≢false}
+use mathlib.Core.Bool.{Bool, true, false, not, _&&_, _||_, cond, So, true≢false, and-false}
 use mathlib.Core.List.{List, [], _∷_}
 use native.Mathlib.Omega.{arith}
 use lib.Dec.{eqb, ltb}
@@ -18,12 +18,15 @@ use Rattle.rules.specs.Registers.{kindIn, kindOf, reset, readOnly, later}
 use Rattle.rules.specs.Interrupts.{requester}
 use Rattle.rules.specs.Step.{stepOf, reported, clockOf, ranOf}
 use Rattle.basics.specs.Iterate.{iterate}
-use Rattle.rules.specs.Access.{readOf, afterRead, writtenOf}
-use Rattle.rules.specs.Events.{isX, isW, isR, isP, isT, isK, isE, unknown, noRegister, tooLarge, held, codeOf, effect, writeEffect}
+use Rattle.rules.specs.Handshakes.{irfAt}
+use Rattle.rules.specs.Moves.{movesOf}
+use Rattle.rules.specs.Access.{readOf, readsByte, afterRead, writtenOf}
+use Rattle.rules.specs.Events.{isX, isW, isR, isP, isT, isK, isE, unknown, noRegister, tooLarge, held, noByte, codeOf, effect, writeEffect}
 use Rattle.rules.specs.Events.{readEffect, outsideSet, pinsEffect, clocksEffect, acknowledgeEffect, ieiEffect, effectOf}
 use Rattle.rules.specs.Sound.{soundOf}
-use Rattle.basics.proofs.Tests.{allOf, each, not-so, never, by-test}
+use Rattle.basics.proofs.Tests.{so-both, allOf, each, not-so, never, by-test}
 use Rattle.theorems.proofs.Parts.{Base, Sound}
+use Rattle.theorems.proofs.Moves.{moves-base}
 use Rattle.theorems.proofs.Steps.{step-sound}
 use Rattle.theorems.proofs.Writes.{master-base, outside-base, written-base}
 use Rattle.theorems.proofs.Stepless.{reset-sound, read-sound, acknowledge-sound, iei-sound, phase-base, phase-sound}
@@ -67,22 +70,26 @@ unfolding writtenOf kindOf kindIn
 write-base d a b h l (free z) = written-base d (h .base) z (kindOf a) b (sym (later-kind d a b) ∙ l)
 write-base d a b h l (first q) = subst (λ (n : ℕ). Base (writtenOf d (kindOf n) b)) (sym q) (master-base d b (h .base))
 
-read-parts : (d : Device) (a : ℕ) → Sound d → Reached d a → Sound (afterRead d a)
-unfolding afterRead
-read-parts d a h (free z) = read-sound d z h a
-read-parts d a h (first q) = subst (λ (n : ℕ). Sound (afterRead d n)) (sym q) h
+read-parts : (d : Device) (a : ℕ) → Sound d → (So (readsByte d a) → So (irfAt d (a - 0x0D))) → Reached d a → Sound (afterRead d a)
+unfolding afterRead readsByte
+read-parts d a h i (free z) = read-sound d z h a i
+read-parts d a h i (first q) = subst (λ (n : ℕ). Sound (afterRead d n)) (sym q) h
+
+-- (a), with its moves, and the step
+moved-sound : (d0 d1 : Device) → Base d1 → Sound (stepOf false d0 (movesOf d0 d1) .device)
+moved-sound d0 d1 h = step-sound false d0 (movesOf d0 d1) (moves-base d0 d1 h)
 
 write-effect : (d : Device) (a b : ℕ) → Sound d → ((reset d && not (eqb a 0)) ≡ false → later d a b ≡ false) → Sound (writeEffect d a b .device)
 unfolding writeEffect
 write-effect d a b h l =
-    by-test (λ (r : Effect). Sound (r .device)) (reset d && not (eqb a 0)) (effect d 0) (effect (stepOf false d (writtenOf d (kindOf a) b) .device) 0)
-    (λ _. h) (λ z. step-sound false d (writtenOf d (kindOf a) b) (write-base d a b h (l z) (reached d a (reset d) refl z)))
+    by-test (λ (r : Effect). Sound (r .device)) (reset d && not (eqb a 0)) (effect d 0) (effect (stepOf false d (movesOf d (writtenOf d (kindOf a) b)) .device) 0)
+    (λ _. h) (λ z. moved-sound d (writtenOf d (kindOf a) b) (write-base d a b h (l z) (reached d a (reset d) refl z)))
 
-read-effect : (d : Device) (a : ℕ) → Sound d → Sound (readEffect d a .device)
+read-effect : (d : Device) (a : ℕ) → Sound d → (So (readsByte d a) → So (irfAt d (a - 0x0D))) → Sound (readEffect d a .device)
 unfolding readEffect
-read-effect d a h =
+read-effect d a h i =
     by-test (λ (r : Effect). Sound (r .device)) (reset d && not (eqb a 0)) (effect d 0) (effect (afterRead d a) (readOf d (kindOf a)))
-    (λ _. h) (λ z. read-parts d a h (reached d a (reset d) refl z))
+    (λ _. h) (λ z. read-parts d a h i (reached d a (reset d) refl z))
 
 -- ---- what code 0 tells of a write, of outside levels, of an acknowledge
 neither : (a b : Bool) → (a || b) ≡ false → (a ≡ false) × (b ≡ false)
@@ -104,7 +111,7 @@ or-else false b h p = h
 
 module _ (d : Device) (e : Event) (z : codeOf d e ≡ 0) where
   abbrev rest : List Bool
-  rest = not (isW e && readOnly (e .a)) ∷ not (isW e && later d (e .a) (e .b)) ∷ not (isK e && eqb (requester d) 5) ∷ []
+  rest = not (isW e && readOnly (e .a)) ∷ not (noByte d e) ∷ not (isW e && later d (e .a) (e .b)) ∷ not (isK e && eqb (requester d) 5) ∷ []
 
   abbrev tests : List Bool
   tests = soundOf d ∷ not (unknown e) ∷ not (noRegister e) ∷ not (tooLarge e) ∷ (held d e || allOf rest) ∷ []
@@ -119,7 +126,16 @@ module _ (d : Device) (e : Event) (z : codeOf d e ≡ 0) where
   unfolding held
   write-now w h =
       without (isW e) (later d (e .a) (e .b)) w
-      (not-so (isW e && later d (e .a) (e .b)) (unless-held (unheld (reset d) (isW e) (not (eqb (e .a) 0)) h) 1))
+      (not-so (isW e && later d (e .a) (e .b)) (unless-held (unheld (reset d) (isW e) (not (eqb (e .a) 0)) h) 2))
+
+  read-now : So (isR e) → So (readsByte d (e .a)) → So (irfAt d (e .a - 0x0D))
+  unfolding held noByte
+  read-now r b =
+      let none = not (irfAt d (e .a - 0x0D)) in
+      let q = eqb-true (e .kind) 2 r in
+      not-false (irfAt d (e .a - 0x0D))
+      (without (isR e && readsByte d (e .a)) none (so-both r b)
+      (not-so (isR e && readsByte d (e .a) && none) (unless-held (simp (q, and-false)) 1)))
 
   pins-small : So (isP e) → e .c < 16
   unfolding tooLarge
@@ -134,7 +150,7 @@ module _ (d : Device) (e : Event) (z : codeOf d e ≡ 0) where
   requested : So (isK e) → eqb (requester d) 5 ≡ false
   requested k =
       without (isK e) (eqb (requester d) 5) k
-      (not-so (isK e && eqb (requester d) 5) (unless-held (acknowledges d e k .free) 2))
+      (not-so (isK e && eqb (requester d) 5) (unless-held (acknowledges d e k .untested .free) 3))
 
   -- ---- the seven kinds
   pub effect-parts : Sound d → Sound (effectOf d e .device)
@@ -144,10 +160,10 @@ module _ (d : Device) (e : Event) (z : codeOf d e ≡ 0) where
       (λ _.
       by-test (λ (r : Effect). Sound (r .device)) (isW e) _ _ (λ w. write-effect d (e .a) (e .b) h (write-now w))
       (λ _.
-      by-test (λ (r : Effect). Sound (r .device)) (isR e) _ _ (λ _. read-effect d (e .a) h)
+      by-test (λ (r : Effect). Sound (r .device)) (isR e) _ _ (λ r. read-effect d (e .a) h (read-now r))
       (λ _.
       by-test (λ (r : Effect). Sound (r .device)) (isP e) _ _
-      (λ p. step-sound false d (outsideSet d (e .a) (e .b) (e .c)) (outside-base d (e .a) (e .b) (e .c) (pins-small p) (h .base)))
+      (λ p. moved-sound d (outsideSet d (e .a) (e .b) (e .c)) (outside-base d (e .a) (e .b) (e .c) (pins-small p) (h .base)))
       (λ _.
       by-test (λ (r : Effect). Sound (r .device)) (isT e) _ _ (λ _. ran-parts (e .a) d h)
       (λ _.

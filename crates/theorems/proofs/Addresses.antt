@@ -1,8 +1,8 @@
 -- Code 4 by kind: what `later`, which goes by address, says of each kind of register.
 -- Assumes nothing.
-use Prim.Native.Nat.{ℕ}
-use mathlib.Core.Path.{_≡_, refl}
-use mathlib.Core.Bool.{Bool, true, false, _&&_, _||_, Bool·beq, and-false}
+use Prim.Native.Nat.{ℕ, zero, suc, _<_}
+use mathlib.Core.Path.{_≡_, refl, ap₂, _∙_}
+use mathlib.Core.Bool.{Bool, true, false, _&&_, _||_, Bool·beq, So, cond, and-false}
 use native.Mathlib.Omega.{arith}
 use lib.Dec.{ltb}
 use borrow.Author.Tests.{ltb-true, ltb-false, lt-leb, ne-eqb}
@@ -11,50 +11,122 @@ use Rattle.rules.specs.declared.Kind.{Kind}
 use Rattle.rules.specs.declared.Kind.the-variants.{Master, Config, Vector, Polarity, Direction, Special, PortCommand, CounterCommand}
 use Rattle.rules.specs.declared.Kind.the-variants.{Data, Current, Constant, CounterMode, CurrentVector, PortMode, Handshake, PatternPolarity, Transition, Mask, Absent}
 use Rattle.basics.specs.Signs.{_==_, within}
-use Rattle.rules.specs.Registers.{portKind, kindIn, kindOf, later, laterPortMode, laterConfig, laterCounterMode}
-use Rattle.basics.proofs.Truth.{rows, all3, same}
+use Rattle.rules.specs.With.{withPortMode}
+use Rattle.rules.specs.Record.{patternAt}
+use Rattle.rules.specs.Registers.{portKind, kindIn, kindOf, portOf, later, laterHandshake, laterConfig, laterCounterMode}
+use Rattle.rules.specs.Sound.{laterPort}
+use Rattle.basics.proofs.Truth.{rows, all6, same}
+use Rattle.basics.proofs.Tests.{by-test}
 use Rattle.basics.proofs.Laws.{below}
 
--- by the tests of a port mode, of the configuration and of a counter mode
-abbrev byKind : Bool → Bool → Bool → Kind → Bool
-byKind p c m Master = false
-byKind p c m Config = c
-byKind p c m (Vector v) = false
-byKind p c m (Polarity i) = false
-byKind p c m (Direction i) = false
-byKind p c m (Special i) = false
-byKind p c m (PortCommand i) = false
-byKind p c m (CounterCommand i) = false
-byKind p c m (Data i) = false
-byKind p c m (Current i high) = false
-byKind p c m (Constant i high) = false
-byKind p c m (CounterMode i) = m
-byKind p c m CurrentVector = false
-byKind p c m (PortMode i) = p
-byKind p c m (Handshake i) = false
-byKind p c m (PatternPolarity i) = false
-byKind p c m (Transition i) = false
-byKind p c m (Mask i) = false
-byKind p c m Absent = false
+-- ---- the settings of which some are left to later requests
+pub data Setting : Type 0 where
+  mode : ℕ → Setting
+  handshake : ℕ → Setting
+  config : Setting
+  counter : Setting
+  other : Setting
 
-abbrev byAddress : Bool → Bool → Bool → ℕ → Bool
-byAddress p c m a = ((a == 0x20 || a == 0x28) && p) || (a == 0x01 && c) || (within 0x1C 0x1E a && m)
+abbrev settingOf : Kind → Setting
+settingOf Master = other
+settingOf Config = config
+settingOf (Vector v) = other
+settingOf (Polarity i) = other
+settingOf (Direction i) = other
+settingOf (Special i) = other
+settingOf (PortCommand i) = other
+settingOf (CounterCommand i) = other
+settingOf (Data i) = other
+settingOf (Current i high) = other
+settingOf (Constant i high) = other
+settingOf (CounterMode i) = counter
+settingOf CurrentVector = other
+settingOf (PortMode i) = mode i
+settingOf (Handshake i) = handshake i
+settingOf (PatternPolarity i) = other
+settingOf (Transition i) = other
+settingOf (Mask i) = other
+settingOf Absent = other
 
--- they agree at the 48 addresses, which antt computes, and past them
-agree : (t : Bool) (p c m : Bool) (a : ℕ) → ltb a 48 ≡ t → byAddress p c m a ≡ byKind p c m (kindOf a)
+-- by the tests of a port's mode and handshake, of the configuration and of a counter mode
+abbrev bySetting : (ℕ → Bool) → (ℕ → Bool) → Bool → Bool → Setting → Bool
+bySetting f g c m (mode p) = f p
+bySetting f g c m (handshake p) = g p
+bySetting f g c m config = c
+bySetting f g c m counter = m
+bySetting f g c m other = false
+
+abbrev byAddress : (ℕ → Bool) → (ℕ → Bool) → Bool → Bool → ℕ → Bool
+byAddress f g c m a =
+    ((a == 0x20 || a == 0x28) && f (portOf a)) || ((a == 0x21 || a == 0x29) && g (portOf a)) || (a == 0x01 && c) || (within 0x1C 0x1E a && m)
+
+-- ---- a test of port A and of port B
+abbrev pick : Bool → Bool → ℕ → Bool
+pick x y p = cond (p == 0) x y
+
+-- the settings of these two ports alone
+abbrev small : Setting → Bool
+small (mode p) = ltb p 2
+small (handshake p) = ltb p 2
+small config = true
+small counter = true
+small other = true
+
+module _ (f : ℕ → Bool) where
+  abbrev picked : ℕ → Bool
+  picked = pick (f 0) (f 1)
+
+  picked-address : (a : ℕ) → f (portOf a) ≡ picked (portOf a)
+  unfolding portOf
+  picked-address a = by-test (λ n. f n ≡ picked n) (ltb a 0x28) 0 1 (λ _. refl) (λ _. refl)
+
+  picked-port : (p : ℕ) → So (ltb p 2) → picked p ≡ f p
+  picked-port zero h = refl
+  picked-port (suc zero) h = refl
+  picked-port (suc (suc p)) h = absurd (omega (arith, ltb-true (suc (suc p)) 2 h))
+
+picked-setting : (f g : ℕ → Bool) (c m : Bool) (s : Setting) → So (small s) → bySetting (picked f) (picked g) c m s ≡ bySetting f g c m s
+picked-setting f g c m (mode p) h = picked-port f p h
+picked-setting f g c m (handshake p) h = picked-port g p h
+picked-setting f g c m config h = refl
+picked-setting f g c m counter h = refl
+picked-setting f g c m other h = refl
+
+-- ---- they agree at the 48 addresses, which antt computes, and past them
+all-small : (t : Bool) (a : ℕ) → ltb a 48 ≡ t → So (small (settingOf (kindOf a)))
 unfolding kindOf kindIn portKind
-agree true p c m a h =
+all-small true a h = same _ true (below (λ a. Bool·beq (small (settingOf (kindOf a))) true) 48 tt a (ltb-true a 48 h))
+all-small false a h = simp h
+
+agree : (t : Bool) (x y u v c m : Bool) (a : ℕ) → ltb a 48 ≡ t → byAddress (pick x y) (pick u v) c m a ≡ bySetting (pick x y) (pick u v) c m (settingOf (kindOf a))
+unfolding kindOf kindIn portKind portOf
+agree true x y u v c m a h =
     same _ _
-    (all3 (λ p c m. Bool·beq (byAddress p c m a) (byKind p c m (kindOf a)))
-    (below (λ a. rows (λ p. rows (λ c. rows (λ m. Bool·beq (byAddress p c m a) (byKind p c m (kindOf a)))))) 48 tt a (ltb-true a 48 h)) p c m)
-agree false p c m a h =
+    (all6 (λ x y u v c m. Bool·beq (byAddress (pick x y) (pick u v) c m a) (bySetting (pick x y) (pick u v) c m (settingOf (kindOf a))))
+    (below
+    (λ a.
+    rows (λ x. rows (λ y. rows (λ u. rows (λ v. rows (λ c. rows (λ m. Bool·beq (byAddress (pick x y) (pick u v) c m a) (bySetting (pick x y) (pick u v) c m (settingOf (kindOf a))))))))))
+    48 tt a (ltb-true a 48 h))
+    x y u v c m)
+agree false x y u v c m a h =
     let g = ltb-false a 48 h in
+    let past : (n : ℕ) → n < a → (a == n) ≡ false = λ n l. ne-eqb a n (λ e. omega (arith, l, e)) in
     simp
-    (h, lt-leb a 0x1E (omega arith), ne-eqb a 0x20 (λ e. omega arith), ne-eqb a 0x28 (λ e. omega arith), ne-eqb a 0x01 (λ e. omega arith), and-false)
+    (h, past 0x20 (omega arith), past 0x28 (omega arith), past 0x21 (omega arith), past 0x29 (omega arith), past 0x01 (omega arith), lt-leb a 0x1E (omega arith), and-false)
 
-abbrev pub laterKind : Kind → ℕ → Bool
-laterKind k b = byKind (laterPortMode b) (laterConfig b) (laterCounterMode b) k
+agreed : (f g : ℕ → Bool) (c m : Bool) (a : ℕ) → byAddress f g c m a ≡ bySetting f g c m (settingOf (kindOf a))
+agreed f g c m a =
+    ap₂ (λ (x y : Bool). ((a == 0x20 || a == 0x28) && x) || ((a == 0x21 || a == 0x29) && y) || (a == 0x01 && c) || (within 0x1C 0x1E a && m))
+    (picked-address f a) (picked-address g a)
+    ∙ agree _ (f 0) (f 1) (g 0) (g 1) c m a refl
+    ∙ picked-setting f g c m (settingOf (kindOf a)) (all-small _ a refl)
 
-pub later-kind : (d : Device) (a b : ℕ) → later d a b ≡ laterKind (kindOf a) b
+-- "whichever register is written last": of a mode with the port's handshake register, of a handshake with its mode
+abbrev pub laterKind : Device → Kind → ℕ → Bool
+laterKind d k b =
+    bySetting (λ p. laterPort (withPortMode (patternAt d p) b)) (λ p. laterHandshake (patternAt d p .mode) b) (laterConfig b) (laterCounterMode b) (settingOf k)
+
+pub later-kind : (d : Device) (a b : ℕ) → later d a b ≡ laterKind d (kindOf a) b
 unfolding later
-later-kind d a b = agree _ (laterPortMode b) (laterConfig b) (laterCounterMode b) a refl
+later-kind d a b =
+    agreed (λ p. laterPort (withPortMode (patternAt d p) b)) (λ p. laterHandshake (patternAt d p .mode) b) (laterConfig b) (laterCounterMode b) a

@@ -14,7 +14,8 @@ use Rattle.rules.specs.Record.{portAt, patternAt, counterAt, sourceAt, idle, of
 use Rattle.rules.specs.With.{withCounters, withPattern, withPmf, withCatcher}
 use Rattle.rules.specs.Registers.{portEnabled}
 use Rattle.rules.specs.Counters.{outputOf}
-use Rattle.rules.specs.PortData.{caughtOf, seenOf, pinsOf, pathOf, standing, valueAt, pinsAt, pathAt, seenAt}
+use Rattle.rules.specs.Handshakes.{isLine}
+use Rattle.rules.specs.PortData.{caughtOf, seenOf, pinsOf, pathOf, directionAt, specialAt, effectiveAt, standing, lined, valueAt, pinsAt, pathAt, seenAt}
 use Rattle.rules.specs.Patterns.{matchOf}
 use Rattle.rules.specs.Interrupts.{fateOf, afterFate}
 use Rattle.rules.specs.Step.{linesAt, eventAt, caughtAt, catchers, matchedBy, patternTurn, settled}
@@ -34,32 +35,32 @@ others d m = withCounters d m
 
 module _ (d : Device) (m : List Counter) (a : Alike (d .counters) m) where
   value-alike : (p : ℕ) → valueAt (others d m) p ≡ valueAt d p
-  unfolding valueAt
+  unfolding valueAt lined isLine
   value-alike p =
       ap₂ (λ (x y : ℕ). cond (eqb p 0) (portAt d p .output) (cond (eqb p 1) x y))
       (standing-alike (getD m 0 idle) (counterAt d 0) 4 _ (a .mode 0) (a .output 0)
       ∙ ap (standing (counterAt d 0) 4) (standing-alike (getD m 1 idle) (counterAt d 1) 0 (portAt d p .output) (a .mode 1) (a .output 1)))
-      (standing-alike (getD m 2 idle) (counterAt d 2) 0 (portAt d p .output) (a .mode 2) (a .output 2))
+      (ap (lined d) (standing-alike (getD m 2 idle) (counterAt d 2) 0 (portAt d p .output) (a .mode 2) (a .output 2)))
 
   pins-alike : (p : ℕ) → pinsAt (others d m) p ≡ pinsAt d p
-  unfolding pinsAt portEnabled
-  pins-alike p = ap (pinsOf (portEnabled d p) (portAt d p)) (value-alike p)
+  unfolding pinsAt directionAt specialAt isLine
+  pins-alike p = ap (pinsOf (portEnabled d p) (effectiveAt d p)) (value-alike p)
 
   path-alike : (p : ℕ) → pathAt (others d m) p ≡ pathAt d p
-  unfolding pathAt
-  path-alike p = ap₂ (λ (x y : ℕ). pathOf (portAt d p) x y) (pins-alike p) (value-alike p)
+  unfolding pathAt directionAt specialAt isLine
+  path-alike p = ap₂ (λ (x y : ℕ). pathOf (effectiveAt d p) x y) (pins-alike p) (value-alike p)
 
   pub seen-alike : (p : ℕ) → seenAt (others d m) p ≡ seenAt d p
-  unfolding seenAt portEnabled
-  seen-alike p = ap (seenOf (portEnabled d p) (portAt d p)) (path-alike p)
+  unfolding seenAt directionAt specialAt isLine
+  seen-alike p = ap (seenOf (portEnabled d p) (effectiveAt d p)) (path-alike p)
 
   pub lines-alike : (i : ℕ) → linesAt (others d m) i ≡ linesAt d i
   unfolding linesAt
   lines-alike i = simp (path-alike 1, path-alike 2)
 
   caught-alike : (p : ℕ) → caughtAt (others d m) p ≡ caughtAt d p
-  unfolding caughtAt portEnabled
-  caught-alike p = ap (λ (x : ℕ). withCatcher (portAt d p) (caughtOf (portEnabled d p) (portAt d p) x)) (path-alike p)
+  unfolding caughtAt directionAt specialAt isLine
+  caught-alike p = ap (λ (x : ℕ). withCatcher (portAt d p) (caughtOf (portEnabled d p) (effectiveAt d p) x)) (path-alike p)
 
   catchers-alike : catchers (others d m) ≡ others (catchers d) m
   unfolding catchers
@@ -84,7 +85,7 @@ matched-others p matches d m =
 
 pattern-alike : (p before : ℕ) (d : Device) (m : List Counter) → Alike (d .counters) m
     → patternTurn p before (others d m) ≡ others (patternTurn p before d) m
-unfolding patternTurn portEnabled
+unfolding patternTurn
 pattern-alike p before d m a =
     ap (λ (x : ℕ). matchedBy p (matchOf (portEnabled d p) (patternAt d p) before x) (others d m)) (seen-alike d m a p)
     ∙ matched-others p _ d m

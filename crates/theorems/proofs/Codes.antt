@@ -1,23 +1,33 @@
 -- The order of the refusals, as truth tables: a code is given exactly when its test passes and none before it does.
 -- Assumes nothing.
-use Prim.Native.Nat.{ℕ}
+use Prim.Native.Nat.{ℕ, _-_}
 use mathlib.Core.Path.{_≡_, refl, ap, _∙_}
 use mathlib.Core.Bool.{Bool, true, false, not, _&&_, _||_, Bool·beq, cond, So, and-false}
+use native.Mathlib.Omega.{arith}
 use lib.Dec.{T, eqb, ltb, leb}
-use borrow.Author.Tests.{eqb-true}
+use borrow.Author.Tests.{eqb-true, leb-true, lt-leb}
 use Rattle.rules.specs.declared.Device.{Device}
 use Rattle.rules.specs.declared.Event.{Event}
 use Rattle.rules.specs.Registers.{readOnly, later}
-use Rattle.rules.specs.Record.{registerCount}
+use Rattle.basics.specs.Signs.{within}
+use Rattle.rules.specs.Record.{registerCount, patternAt}
+use Rattle.rules.specs.Handshakes.{handshakes, irfAt}
+use Rattle.rules.specs.Access.{readsByte}
 use Rattle.rules.specs.Interrupts.{requester}
 use Rattle.rules.specs.Sound.{soundOf}
-use Rattle.rules.specs.Events.{isW, isR, isP, isK, isE, unknown, noRegister, tooLarge, held, codeOf}
-use Rattle.basics.proofs.Truth.{rows, all8, same}
-use Rattle.basics.proofs.Tests.{left}
+use Rattle.rules.specs.Events.{isW, isR, isP, isK, isE, unknown, noRegister, tooLarge, held, noByte, codeOf}
+use Rattle.basics.proofs.Truth.{rows, all1, all8, same}
+use Rattle.basics.proofs.Tests.{left, right}
 
--- the code by its eight tests, in their order
-abbrev chain : Bool → Bool → Bool → Bool → Bool → Bool → Bool → Bool → ℕ
-chain s u n t h r l k = cond (not s) 9 (cond u 1 (cond n 2 (cond t 5 (cond h 0 (cond r 3 (cond l 4 (cond k 6 0)))))))
+-- the code by its nine tests, in their order
+abbrev chain : Bool → Bool → Bool → Bool → Bool → Bool → Bool → Bool → Bool → ℕ
+chain s u n t h r y l k = cond (not s) 9 (cond u 1 (cond n 2 (cond t 5 (cond h 0 (cond r 3 (cond y 11 (cond l 4 (cond k 6 0))))))))
+
+all9 : (t : Bool → Bool → Bool → Bool → Bool → Bool → Bool → Bool → Bool → Bool)
+    → T (rows (λ a. rows (λ b. rows (λ c. rows (λ d. rows (λ e. rows (λ f. rows (λ g. rows (λ h. rows (λ i. t a b c d e f g h i))))))))))
+    → (a b c d e f g h i : Bool) → T (t a b c d e f g h i)
+all9 t p a b c d e f g h i =
+    all8 (t a) (all1 (λ a. rows (λ b. rows (λ c. rows (λ d. rows (λ e. rows (λ f. rows (λ g. rows (λ h. rows (λ i. t a b c d e f g h i))))))))) p a) b c d e f g h i
 
 -- the refusals of a write to its register, and of an acknowledge
 abbrev pub refusedReadOnly : Event → Bool
@@ -30,43 +40,48 @@ abbrev pub refusedIdle : Device → Event → Bool
 refusedIdle d e = isK e && eqb (requester d) 5
 
 module _ (d : Device) (e : Event) where
-  by-table : (m : ℕ) (x : Bool → Bool → Bool → Bool → Bool → Bool → Bool → Bool → Bool)
-      → T (rows (λ s. rows (λ u. rows (λ n. rows (λ t. rows (λ h. rows (λ r. rows (λ l. rows (λ k. Bool·beq (eqb (chain s u n t h r l k) m) (x s u n t h r l k))))))))))
+  by-table : (m : ℕ) (x : Bool → Bool → Bool → Bool → Bool → Bool → Bool → Bool → Bool → Bool)
+      → T (rows (λ s. rows (λ u. rows (λ n. rows (λ t. rows (λ h. rows (λ r. rows (λ y. rows (λ l. rows (λ k. Bool·beq (eqb (chain s u n t h r y l k) m) (x s u n t h r y l k)))))))))))
       → eqb (codeOf d e) m
-      ≡ x (soundOf d) (unknown e) (noRegister e) (tooLarge e) (held d e) (refusedReadOnly e) (refusedLater d e) (refusedIdle d e)
+      ≡ x (soundOf d) (unknown e) (noRegister e) (tooLarge e) (held d e) (refusedReadOnly e) (noByte d e) (refusedLater d e) (refusedIdle d e)
   unfolding codeOf
   by-table m x p =
       same _ _
-      (all8 (λ s u n t h r l k. Bool·beq (eqb (chain s u n t h r l k) m) (x s u n t h r l k)) p (soundOf d) (unknown e) (noRegister e) (tooLarge e)
-      (held d e) (refusedReadOnly e) (refusedLater d e) (refusedIdle d e))
+      (all9 (λ s u n t h r y l k. Bool·beq (eqb (chain s u n t h r y l k) m) (x s u n t h r y l k)) p (soundOf d) (unknown e) (noRegister e) (tooLarge e)
+      (held d e) (refusedReadOnly e) (noByte d e) (refusedLater d e) (refusedIdle d e))
 
   pub test-9 : eqb (codeOf d e) 9 ≡ not (soundOf d)
-  test-9 = by-table 9 (λ s u n t h r l k. not s) tt
+  test-9 = by-table 9 (λ s u n t h r y l k. not s) tt
 
   pub test-1 : eqb (codeOf d e) 1 ≡ (soundOf d && unknown e)
-  test-1 = by-table 1 (λ s u n t h r l k. s && u) tt
+  test-1 = by-table 1 (λ s u n t h r y l k. s && u) tt
 
   pub test-2 : eqb (codeOf d e) 2 ≡ (soundOf d && not (unknown e) && noRegister e)
-  test-2 = by-table 2 (λ s u n t h r l k. s && not u && n) tt
+  test-2 = by-table 2 (λ s u n t h r y l k. s && not u && n) tt
 
   pub test-5 : eqb (codeOf d e) 5 ≡ (soundOf d && not (unknown e) && not (noRegister e) && tooLarge e)
-  test-5 = by-table 5 (λ s u n t h r l k. s && not u && not n && t) tt
+  test-5 = by-table 5 (λ s u n t h r y l k. s && not u && not n && t) tt
 
-  pub test-3 : eqb (codeOf d e) 3
-      ≡ (soundOf d && not (unknown e) && not (noRegister e) && not (tooLarge e) && not (held d e) && refusedReadOnly e)
-  test-3 = by-table 3 (λ s u n t h r l k. s && not u && not n && not t && not h && r) tt
+  -- past 9, 1, 2, 5 and the reset hold
+  abbrev pub tested : Bool
+  tested = soundOf d && not (unknown e) && not (noRegister e) && not (tooLarge e) && not (held d e)
 
-  pub test-4 : eqb (codeOf d e) 4
-      ≡ (soundOf d && not (unknown e) && not (noRegister e) && not (tooLarge e) && not (held d e) && not (refusedReadOnly e) && refusedLater d e)
-  test-4 = by-table 4 (λ s u n t h r l k. s && not u && not n && not t && not h && not r && l) tt
+  pub test-3 : eqb (codeOf d e) 3 ≡ (tested && refusedReadOnly e)
+  test-3 = by-table 3 (λ s u n t h r y l k. s && not u && not n && not t && not h && r) tt
 
-  pub test-6 : eqb (codeOf d e) 6
-      ≡ (soundOf d && not (unknown e) && not (noRegister e) && not (tooLarge e) && not (held d e) && not (refusedReadOnly e) && not (refusedLater d e) && refusedIdle d e)
-  test-6 = by-table 6 (λ s u n t h r l k. s && not u && not n && not t && not h && not r && not l && k) tt
+  pub test-11 : eqb (codeOf d e) 11 ≡ (tested && not (refusedReadOnly e) && noByte d e)
+  test-11 = by-table 11 (λ s u n t h r y l k. s && not u && not n && not t && not h && not r && y) tt
+
+  pub test-4 : eqb (codeOf d e) 4 ≡ (tested && not (refusedReadOnly e) && not (noByte d e) && refusedLater d e)
+  test-4 = by-table 4 (λ s u n t h r y l k. s && not u && not n && not t && not h && not r && not y && l) tt
+
+  pub test-6 : eqb (codeOf d e) 6 ≡ (tested && not (refusedReadOnly e) && not (noByte d e) && not (refusedLater d e) && refusedIdle d e)
+  test-6 = by-table 6 (λ s u n t h r y l k. s && not u && not n && not t && not h && not r && not y && not l && k) tt
 
   pub test-0 : eqb (codeOf d e) 0
-      ≡ (soundOf d && not (unknown e) && not (noRegister e) && not (tooLarge e) && (held d e || (not (refusedReadOnly e) && not (refusedLater d e) && not (refusedIdle d e))))
-  test-0 = by-table 0 (λ s u n t h r l k. s && not u && not n && not t && (h || (not r && not l && not k))) tt
+      ≡ (soundOf d && not (unknown e) && not (noRegister e) && not (tooLarge e)
+      && (held d e || (not (refusedReadOnly e) && not (noByte d e) && not (refusedLater d e) && not (refusedIdle d e))))
+  test-0 = by-table 0 (λ s u n t h r y l k. s && not u && not n && not t && (h || (not r && not y && not l && not k))) tt
 
 -- ---- the kinds exclude one another
 or-so : {C : Type 0} (a b : Bool) → (So a → C) → (So b → C) → So (a || b) → C
@@ -94,24 +109,46 @@ too-large-known e =
     (or-so (isW e && x) (isP e && y) (λ h. known e 1 refl (left (isW e) x h)) (λ h. known e 3 refl (left (isP e) y h)))
     (λ h. known e 6 refl (left (isE e) z h))
 
--- what is not tested of an acknowledge
-pub record Acknowledges (d : Device) (e : Event) : Type 0 where
+-- a write is no read of data
+pub write-byte : (d : Device) (e : Event) → So (isW e) → noByte d e ≡ false
+unfolding noByte
+write-byte d e t = simp (eqb-true (e .kind) 1 t)
+
+-- what is not tested of an event that is no write
+pub record Untested (d : Device) (e : Event) : Type 0 where
   pub known : unknown e ≡ false
   pub register : noRegister e ≡ false
   pub small : tooLarge e ≡ false
   pub free : held d e ≡ false
   pub readable : refusedReadOnly e ≡ false
-  pub now : refusedLater d e ≡ false
 
-pub acknowledges : (d : Device) (e : Event) → So (isK e) → Acknowledges d e
-unfolding unknown noRegister tooLarge held
-acknowledges d e t =
-    let q = eqb-true (e .kind) 5 t in
+-- of a read of data with no byte in front; and of an acknowledge
+pub reads : (d : Device) (e : Event) → So (noByte d e) → Untested d e
+unfolding unknown noRegister tooLarge held noByte readsByte
+reads d e t =
+    let data-read = left (isR e) (readsByte d (e .a)) (left (isR e && readsByte d (e .a)) (not (irfAt d (e .a - 0x0D))) t) in
+    let low = right (isR e) (readsByte d (e .a)) (left (isR e && readsByte d (e .a)) (not (irfAt d (e .a - 0x0D))) t) in
+    let at = leb-true (e .a) 0x0E (right (leb 0x0D (e .a)) (leb (e .a) 0x0E) (left (within 0x0D 0x0E (e .a)) (handshakes (patternAt d (e .a - 0x0D))) low)) in
+    let q = eqb-true (e .kind) 2 data-read in
     record {
       known = simp q;
-      register = simp q;
+      register = simp (q, lt-leb registerCount (e .a) (omega (arith, at)));
       small = simp q;
       free = simp (q, and-false);
       readable = simp q;
+    }
+
+pub record Acknowledges (d : Device) (e : Event) : Type 0 where
+  pub untested : Untested d e
+  pub byte : noByte d e ≡ false
+  pub now : refusedLater d e ≡ false
+
+pub acknowledges : (d : Device) (e : Event) → So (isK e) → Acknowledges d e
+unfolding unknown noRegister tooLarge held noByte
+acknowledges d e t =
+    let q = eqb-true (e .kind) 5 t in
+    record {
+      untested = record { known = simp q; register = simp q; small = simp q; free = simp (q, and-false); readable = simp q };
+      byte = simp q;
       now = simp q;
     }

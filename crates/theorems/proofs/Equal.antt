@@ -11,7 +11,9 @@ use Rattle.rules.specs.declared.Source.{Source}
 use Rattle.rules.specs.declared.Counter.{Counter}
 use Rattle.rules.specs.declared.Port.{Port}
 use Rattle.rules.specs.declared.Pattern.{Pattern}
-use Rattle.rules.specs.Sound.{sameSource, sameCounter, samePort, samePattern}
+use Rattle.rules.specs.declared.Transfer.{Transfer}
+use Rattle.rules.specs.With.{transfer}
+use Rattle.rules.specs.Sound.{sameSource, sameCounter, samePort, samePattern, sameTransfer}
 use Rattle.basics.proofs.Tests.{allOf, each}
 
 pub beq-true : (a b : Bool) → So (Bool·beq a b) → a ≡ b
@@ -129,3 +131,17 @@ same-pattern q r h = same-part pattern-of (pattern-fields q) (pattern-fields r) 
 pub pattern-same : (q : Pattern) → So (samePattern q q)
 unfolding samePattern
 pattern-same q = simp (eqb-same, beq-refl)
+
+abbrev transfer-fields : Transfer → List Field
+transfer-fields t = number (t .front) ∷ number (t .behind) ∷ number (t .bytes) ∷ flag (t .unfinished) ∷ flag (t .pair) ∷ []
+
+abbrev transfer-of : List Field → Transfer
+transfer-of l = transfer (num l 0) (num l 1) (num l 2) (bool l 3) (bool l 4)
+
+pub same-transfer : (t u : Transfer) → So (sameTransfer t u) → t ≡ u
+unfolding sameTransfer
+same-transfer t u h = same-part transfer-of (transfer-fields t) (transfer-fields u) h
+
+pub transfer-same : (t : Transfer) → So (sameTransfer t t)
+unfolding sameTransfer
+transfer-same t = simp (eqb-same, beq-refl)

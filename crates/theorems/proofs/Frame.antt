@@ -7,23 +7,27 @@ use lib.ListN.{set}
 use Rattle.rules.specs.declared.Device.{Device}
 use Rattle.rules.specs.declared.Counted.{Counted}
 use Rattle.rules.specs.declared.Link.{Link}
-use Rattle.rules.specs.Record.{portAt, patternAt, counterAt, ofPort, ofCounter}
+use Rattle.rules.specs.Record.{portAt, patternAt, counterAt, blank, ofPort, ofCounter}
 use Rattle.rules.specs.With.{withCounter, withPattern, withPmf, withCatcher}
 use Rattle.rules.specs.Registers.{counterEnabled}
 use Rattle.rules.specs.Counters.{reachOf, turnOf}
 use Rattle.rules.specs.Step.{eventAt, turned, counterTurn, caughtAt, catchers, matchedBy, patternTurn, settled, stepOf}
+use Rattle.basics.proofs.Places.{set-keeps}
 use Rattle.theorems.proofs.Fates.{by-source}
 
--- e is d but for its counters, catchers, patterns' PMF and sources: of B and C, whose bits are the counters' lines, all but the catchers
+-- e is d but for its counters, catchers, patterns' PMF and sources: of B and C, whose bits are the counters' lines, all but the catchers;
+-- and of A and B, which may have a handshake, the mode and what they hold
 pub record Frame (d e : Device) : Type 0 where
   pub master : e .master ≡ d .master
   pub config : e .config ≡ d .config
   pub phase : e .phase ≡ d .phase
   pub portB : withCatcher (portAt e 1) 0 ≡ withCatcher (portAt d 1) 0
   pub portC : withCatcher (portAt e 2) 0 ≡ withCatcher (portAt d 2) 0
+  pub modes : (p : ℕ) → patternAt e p .mode ≡ patternAt d p .mode
+  pub transfers : e .transfers ≡ d .transfers
 
 pub frame-refl : (d : Device) → Frame d d
-frame-refl d = record { master = refl; config = refl; phase = refl; portB = refl; portC = refl }
+frame-refl d = record { master = refl; config = refl; phase = refl; portB = refl; portC = refl; modes = λ p. refl; transfers = refl }
 
 pub frame-trans : {d e f : Device} → Frame d e → Frame e f → Frame d f
 frame-trans p q =
@@ -33,16 +37,18 @@ frame-trans p q =
       phase = q .phase ∙ p .phase;
       portB = q .portB ∙ p .portB;
       portC = q .portC ∙ p .portC;
+      modes = λ j. q .modes j ∙ p .modes j;
+      transfers = q .transfers ∙ p .transfers;
     }
 
 pub frame-event : (d : Device) (k : ℕ) (hides happens : Bool) → Frame d (eventAt d k hides happens)
 frame-event d k hides happens =
-    by-source (Frame d) d k hides happens (frame-refl d) (λ s. record { master = refl; config = refl; phase = refl; portB = refl; portC = refl })
+    by-source (Frame d) d k hides happens (frame-refl d) (λ s. record { master = refl; config = refl; phase = refl; portB = refl; portC = refl; modes = λ p. refl; transfers = refl })
 
 pub frame-turned : (d : Device) (i : ℕ) (r : Counted) → Frame d (turned d i r .device)
 unfolding turned eventAt
 frame-turned d i r =
-    let w : Frame d (withCounter d i (r .counter)) = record { master = refl; config = refl; phase = refl; portB = refl; portC = refl } in
+    let w : Frame d (withCounter d i (r .counter)) = record { master = refl; config = refl; phase = refl; portB = refl; portC = refl; modes = λ p. refl; transfers = refl } in
     frame-trans w (frame-event (withCounter d i (r .counter)) (ofCounter i) true (r .terminal))
 
 pub frame-turn : (k : Link) (timer : Bool) (were are i : ℕ) (d : Device) → Frame d (counterTurn k timer were are i d .device)
@@ -51,12 +57,18 @@ frame-turn k timer were are i d = frame-turned d i _
 
 frame-catchers : (d : Device) → Frame d (catchers d)
 unfolding catchers caughtAt
-frame-catchers d = record { master = refl; config = refl; phase = refl; portB = refl; portC = refl }
+frame-catchers d = record { master = refl; config = refl; phase = refl; portB = refl; portC = refl; modes = λ p. refl; transfers = refl }
+
+-- PMF is no part of the modes
+pub pmf-modes : (d : Device) (p : ℕ) (matches : Bool) (j : ℕ) → patternAt (withPattern d p (withPmf (patternAt d p) matches)) j .mode ≡ patternAt d j .mode
+pmf-modes d p matches j =
+    set-keeps (λ i q. q .mode ≡ patternAt d i .mode) (d .patterns) p j (withPmf (patternAt d p) matches) blank (λ _. refl) refl
 
 frame-matched : (p : ℕ) (matches : Bool) (d : Device) → Frame d (matchedBy p matches d)
 unfolding matchedBy
 frame-matched p matches d =
-    let w : Frame d (withPattern d p (withPmf (patternAt d p) matches)) = record { master = refl; config = refl; phase = refl; portB = refl; portC = refl } in
+    let w : Frame d (withPattern d p (withPmf (patternAt d p) matches)) =
+    record { master = refl; config = refl; phase = refl; portB = refl; portC = refl; modes = pmf-modes d p matches; transfers = refl } in
     frame-trans w (frame-event (withPattern d p (withPmf (patternAt d p) matches)) (ofPort p) (patternAt d p .ioe) _)
 
 frame-pattern : (p before : ℕ) (d : Device) → Frame d (patternTurn p before d)

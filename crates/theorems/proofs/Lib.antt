@@ -7,10 +7,13 @@ pub mod Addresses
 pub mod CounterLaws
 pub mod SourceLaws
 pub mod PortLaws
+pub mod Effective
 pub mod PatternLaws
+pub mod TransferLaws
 pub mod Stores
--- What an event does: at a source, in a step, as a write, without a step.
+-- What an event does: at a source, to what a port holds, in a step, as a write, without a step.
 pub mod Fates
+pub mod Moves
 pub mod Steps
 pub mod Writes
 pub mod Stepless
@@ -23,10 +26,11 @@ pub mod Accepted
 pub mod Soundness
 pub mod Shapes
 pub mod Traces
--- Clocks: reports, and demand 3.
+-- Clocks: reports, no byte that moves (and what R leaves), and demand 3.
 pub mod ReportLaws
 pub mod Frame
 pub mod Reports
+pub mod Bytes
 pub mod Demand3
 -- Clocks: a free-running counter by division.
 pub mod Countdown

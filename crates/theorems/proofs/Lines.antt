@@ -1,9 +1,10 @@
 -- A counter's lines in a timer clock. The phase is on none of them, so an edge compares the same lines before the step and after (a).
--- The gate line goes by the settings, output register and outside levels of its port alone, and stays through the step.
+-- The gate line goes by the settings, output register and outside levels of its port, and where a ready line stands there by what that
+-- port holds; it stays through the step.
 -- Assumes nothing.
-use Prim.Native.Nat.{ℕ, zero, suc, _/_, _%_, _<_}
+use Prim.Native.Nat.{ℕ, zero, suc, _-_, _/_, _%_, _<_}
 use mathlib.Core.Path.{_≡_, refl, sym, ap, _∙_}
-use mathlib.Core.Bool.{Bool, false}
+use mathlib.Core.Bool.{Bool, false, _&&_, cond}
 use native.Mathlib.Omega.{arith}
 use lib.Dec.{eqb, lit<}
 use Rattle.basics.proofs.Laws.{bit-byte}
@@ -12,51 +13,49 @@ use Rattle.rules.specs.declared.Port.{Port}
 use Rattle.rules.specs.declared.Counter.{Counter}
 use Rattle.basics.specs.Byte.{bit}
 use Rattle.rules.specs.Record.{portAt, counterAt}
-use Rattle.rules.specs.With.{withPhase, withCatcher}
-use Rattle.rules.specs.Registers.{portEnabled}
-use Rattle.rules.specs.PortData.{pinBit, pathBit, pinsOf, pathOf, standing, valueAt, pinsAt, pathAt}
+use Rattle.rules.specs.With.{withPhase, withCatcher, withDirection, withSpecial}
+use Rattle.rules.specs.Registers.{portOn, portEnabled}
+use Rattle.rules.specs.Handshakes.{readyAt, isLine}
+use Rattle.rules.specs.PortData.{pinBit, pathBit, directionAt, specialAt, effectiveAt, standing, lined, valueAt, pinsAt, pathAt}
 use Rattle.rules.specs.Step.{linesAt}
+use Rattle.theorems.proofs.Effective.{line-kept, direction-kept, special-kept, ready-kept, path-bit}
 use Rattle.theorems.proofs.Frame.{Frame}
 
 -- the phase is on no line
 pub lines-phase : (d : Device) (v : Bool) (i : ℕ) → linesAt (withPhase d v) i ≡ linesAt d i
-unfolding linesAt pathAt pinsAt valueAt portEnabled
+unfolding linesAt pathAt pinsAt valueAt directionAt specialAt lined isLine
 lines-phase d v i = refl
 
--- path bit k of a port that puts out its output register's bit there
-lineBit : Bool → Port → ℕ → Bool
-lineBit enabled q k =
-    pathBit (bit (q .direction) k)
-    (pinBit enabled (bit (q .direction) k) (bit (q .special) k) (bit (q .polarity) k) (bit (q .output) k) (bit (q .outside) k))
-    (bit (q .polarity) k) (bit (q .output) k)
-
-path-bit : (enabled : Bool) (q : Port) (v k : ℕ) → k < 8 → bit v k ≡ bit (q .output) k
-    → bit (pathOf q (pinsOf enabled q v) v) k ≡ lineBit enabled q k
-unfolding pathOf pinsOf lineBit
-path-bit enabled q v k h e =
-    bit-byte _ k h
-    ∙ ap (λ (x : Bool). pathBit (bit (q .direction) k) x (bit (q .polarity) k) (bit v k)) (bit-byte _ k h)
-    ∙ ap
-    (λ (x : Bool).
-    pathBit (bit (q .direction) k)
-    (pinBit enabled (bit (q .direction) k) (bit (q .special) k) (bit (q .polarity) k) x (bit (q .outside) k))
-    (bit (q .polarity) k) x)
-    e
+-- path bit k of a port that puts out v there
+lineBit : Bool → Port → Bool → ℕ → Bool
+lineBit enabled q v k =
+    pathBit (bit (q .direction) k) (pinBit enabled (bit (q .direction) k) (bit (q .special) k) (bit (q .polarity) k) v (bit (q .outside) k))
+    (bit (q .polarity) k) v
 
 -- a counter's output stands at one bit alone
 standing-other : (c : Counter) (k x j : ℕ) → j < 8 → eqb j k ≡ false → bit (standing c k x) j ≡ bit x j
 unfolding standing
 standing-other c k x j h e = bit-byte _ j h ∙ (simp e)
 
-line-b : (d : Device) (k : ℕ) → k < 8 → eqb k 4 ≡ false → eqb k 0 ≡ false → bit (pathAt d 1) k ≡ lineBit (portEnabled d 1) (portAt d 1) k
-unfolding pathAt pinsAt valueAt
+line-b : (d : Device) (k : ℕ) → k < 8 → eqb k 4 ≡ false → eqb k 0 ≡ false
+    → bit (pathAt d 1) k ≡ lineBit (portEnabled d 1) (effectiveAt d 1) (bit (portAt d 1 .output) k) k
+unfolding pathAt pinsAt valueAt lineBit
 line-b d k h e f =
-    path-bit (portEnabled d 1) (portAt d 1) _ k h
+    path-bit (portEnabled d 1) (effectiveAt d 1) _ k h
+    ∙ ap (λ (v : Bool). lineBit (portEnabled d 1) (effectiveAt d 1) v k)
     (standing-other (counterAt d 0) 4 _ k h e ∙ standing-other (counterAt d 1) 0 (portAt d 1 .output) k h f)
 
-line-c : (d : Device) (k : ℕ) → k < 8 → eqb k 0 ≡ false → bit (pathAt d 2) k ≡ lineBit (portEnabled d 2) (portAt d 2) k
-unfolding pathAt pinsAt valueAt
-line-c d k h f = path-bit (portEnabled d 2) (portAt d 2) _ k h (standing-other (counterAt d 2) 0 (portAt d 2 .output) k h f)
+-- a ready line, or the output register's bit
+outBit : Device → ℕ → Bool
+outBit d k = cond (isLine d k && eqb (k % 2) 1) (readyAt d (1 - k / 2)) (bit (portAt d 2 .output) k)
+
+line-c : (d : Device) (k : ℕ) → k < 8 → eqb k 0 ≡ false → bit (pathAt d 2) k ≡ lineBit (portEnabled d 2) (effectiveAt d 2) (outBit d k) k
+unfolding pathAt pinsAt valueAt lined lineBit outBit
+line-c d k h f =
+    path-bit (portEnabled d 2) (effectiveAt d 2) _ k h
+    ∙ ap (λ (v : Bool). lineBit (portEnabled d 2) (effectiveAt d 2) v k)
+    (bit-byte _ k h
+    ∙ ap (λ (v : Bool). cond (isLine d k && eqb (k % 2) 1) (readyAt d (1 - k / 2)) v) (standing-other (counterAt d 2) 0 (portAt d 2 .output) k h f))
 
 -- D3 of a byte's halves
 high-half : (x : ℕ) → bit (x / 16) 3 ≡ bit x 7
@@ -71,22 +70,34 @@ low-half x =
 
 -- ---- what a frame keeps
 module _ (d e : Device) (f : Frame d e) where
-  enabled-kept : (p : ℕ) → portEnabled e p ≡ portEnabled d p
-  unfolding portEnabled
-  enabled-kept p = simp (f .config)
+  effective-kept : (p : ℕ) → withCatcher (portAt e p) 0 ≡ withCatcher (portAt d p) 0
+      → withCatcher (effectiveAt e p) 0 ≡ withCatcher (effectiveAt d p) 0
+  effective-kept p h =
+      let t = direction-kept d e (f .modes) p (ap (λ (q : Port). q .direction) h) in
+      let u = special-kept d e (f .modes) p (ap (λ (q : Port). q .special) h) in
+      λ i. withSpecial (withDirection (h i) (t i)) (u i)
 
-  line-kept : (p k : ℕ) → withCatcher (portAt e p) 0 ≡ withCatcher (portAt d p) 0
-      → lineBit (portEnabled e p) (portAt e p) k ≡ lineBit (portEnabled d p) (portAt d p) k
+  bit-kept : (p k : ℕ) (v : Bool) → withCatcher (portAt e p) 0 ≡ withCatcher (portAt d p) 0
+      → lineBit (portEnabled e p) (effectiveAt e p) v k ≡ lineBit (portEnabled d p) (effectiveAt d p) v k
   unfolding lineBit
-  line-kept p k h =
-      ap (λ (b : Bool). lineBit b (withCatcher (portAt e p) 0) k) (enabled-kept p)
-      ∙ ap (λ (q : Port). lineBit (portEnabled d p) q k) h
+  bit-kept p k v h =
+      ap (λ (n : ℕ). lineBit (portOn n p) (effectiveAt e p) v k) (f .config)
+      ∙ ap (λ (q : Port). lineBit (portEnabled d p) q v k) (effective-kept p h)
+
+  out-kept : (k : ℕ) → outBit e k ≡ outBit d k
+  unfolding outBit
+  out-kept k =
+      let o = ap (λ (q : Port). q .output) (f .portC) in
+      simp (line-kept d e (f .modes) k, ready-kept d e (f .modes) (f .config) (f .transfers) (1 - k / 2), o)
 
   kept-b : (k : ℕ) → k < 8 → eqb k 4 ≡ false → eqb k 0 ≡ false → bit (pathAt e 1) k ≡ bit (pathAt d 1) k
-  kept-b k h a b = line-b e k h a b ∙ line-kept 1 k (f .portB) ∙ sym (line-b d k h a b)
+  kept-b k h a b =
+      line-b e k h a b ∙ bit-kept 1 k _ (f .portB)
+      ∙ ap (λ (q : Port). lineBit (portEnabled d 1) (effectiveAt d 1) (bit (q .output) k) k) (f .portB) ∙ sym (line-b d k h a b)
 
   kept-c : (k : ℕ) → k < 8 → eqb k 0 ≡ false → bit (pathAt e 2) k ≡ bit (pathAt d 2) k
-  kept-c k h b = line-c e k h b ∙ line-kept 2 k (f .portC) ∙ sym (line-c d k h b)
+  kept-c k h b =
+      line-c e k h b ∙ bit-kept 2 k _ (f .portC) ∙ ap (λ (v : Bool). lineBit (portEnabled d 2) (effectiveAt d 2) v k) (out-kept k) ∙ sym (line-c d k h b)
 
   -- the gate line stays
   pub gate-kept : (i : ℕ) → i < 3 → bit (linesAt e i) 3 ≡ bit (linesAt d i) 3

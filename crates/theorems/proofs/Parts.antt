@@ -1,19 +1,24 @@
--- A sound record, clause by clause: what `soundOf` tests, as facts about each source, counter, port and pattern.
+-- A sound record, clause by clause: what `soundOf` tests, as facts about each source, counter, port, pattern and transfer.
 -- Assumes nothing.
-use Prim.Native.Nat.{ℕ, _<_}
-use mathlib.Core.Path.{_≡_, refl}
+use Prim.Native.Nat.{ℕ, _<_, _≤_}
+use mathlib.Core.Path.{_≡_, refl, subst}
 use mathlib.Core.Bool.{Bool, true, false, not, _&&_, So, false≢true}
 use mathlib.Core.List.{[], _∷_}
 use lib.Dec.{eqb, ltb}
-use borrow.Author.Tests.{ltb-true, lt-ltb}
+use borrow.Author.Tests.{ltb-true, lt-ltb, eqb-true, eq-eqb, leb-true, le-leb}
 use Rattle.rules.specs.declared.Source.{Source}
 use Rattle.rules.specs.declared.Counter.{Counter}
 use Rattle.rules.specs.declared.Port.{Port}
+use Rattle.rules.specs.declared.Pattern.{Pattern}
+use Rattle.rules.specs.declared.Transfer.{Transfer}
 use Rattle.rules.specs.declared.Device.{Device}
-use Rattle.rules.specs.Record.{vectorAt, portAt, patternAt, counterAt, sourceAt, quiet, idle, bare, blank}
-use Rattle.rules.specs.Registers.{reset, portEnabled, counterEnabled, laterConfig, laterPortMode, laterCounterMode}
-use Rattle.rules.specs.Sound.{only, fourBits, errOnly, hiddenOnly, soundSource, cipOnly, halfOnly, frozenOnly, soundCounter, pmfOnly, soundPortAt}
+use Rattle.rules.specs.Record.{vectorAt, portAt, patternAt, transferAt, counterAt, sourceAt, quiet, idle, bare, blank, vacant, ofPort}
+use Rattle.rules.specs.Registers.{reset, portEnabled, counterEnabled, laterConfig, laterCounterMode}
+use Rattle.rules.specs.Handshakes.{handshakes, itb, strobed, depth}
+use Rattle.rules.specs.Sound.{only, fourBits, laterPort, errOnly, hiddenOnly, soundSource, cipOnly, halfOnly, frozenOnly, soundCounter, pmfOnly, soundPortAt}
+use Rattle.rules.specs.Sound.{sameTransfer, heldOnly, roomOnly, bytesOnly, unfinishedOnly, pairOnly, soundTransfer}
 use Rattle.basics.proofs.Tests.{so-both, left, right, each}
+use Rattle.theorems.proofs.Equal.{same-transfer, transfer-same}
 
 -- ---- if the first, the second
 pub if-then : (a b : Bool) → So (only a b) → So a → So b
@@ -24,7 +29,7 @@ pub only-if : (a b : Bool) → (So a → So b) → So (only a b)
 only-if true b f = f refl
 only-if false b f = refl
 
--- ---- one source, one counter, port C
+-- ---- one source, one counter, port C, what one port holds
 pub record SourceSound (s : Source) : Type 0 where
   pub err : So (s .err) → So (s .ip)
   pub hidden : So (s .hidden) → So (s .ip && not (s .err))
@@ -42,6 +47,15 @@ pub record FourBits (q : Port) : Type 0 where
   pub output : q .output < 16
   pub outside : q .outside < 16
   pub catcher : q .catcher < 16
+
+-- of a port with pattern q, whose source is s
+pub record TransferSound (enabled : Bool) (q : Pattern) (s : Source) (t : Transfer) : Type 0 where
+  pub held : So (not (handshakes q && enabled)) → t ≡ vacant
+  pub room : t .bytes ≤ depth q
+  pub front : t .bytes ≡ 0 → t .front ≡ 0
+  pub behind : t .bytes < 2 → t .behind ≡ 0
+  pub unfinished : So (t .unfinished) → So (not (strobed q))
+  pub pair : So (t .pair) → So (s .ip && itb q)
 
 pub source-sound : {s : Source} → So (soundSource s) → SourceSound s
 unfolding soundSource errOnly hiddenOnly
@@ -94,6 +108,35 @@ bits-four {q} h =
     (lt-ltb _ 16 (h .outside)))
     (lt-ltb _ 16 (h .catcher))
 
+pub transfer-sound : {e : Bool} {q : Pattern} {s : Source} {t : Transfer} → So (soundTransfer e q s t) → TransferSound e q s t
+unfolding soundTransfer heldOnly roomOnly bytesOnly unfinishedOnly pairOnly
+transfer-sound {e} {q} {s} {t} h =
+    let part = each (heldOnly e q t ∷ roomOnly q t ∷ bytesOnly t ∷ unfinishedOnly q t ∷ pairOnly q s t ∷ []) h in
+    let bytes = each (only (eqb (t .bytes) 0) (eqb (t .front) 0) ∷ only (ltb (t .bytes) 2) (eqb (t .behind) 0) ∷ []) (part 2) in
+    record {
+      held = λ n. same-transfer t vacant (if-then (not (handshakes q && e)) (sameTransfer t vacant) (part 0) n);
+      room = leb-true (t .bytes) (depth q) (part 1);
+      front = λ z. eqb-true (t .front) 0 (if-then (eqb (t .bytes) 0) (eqb (t .front) 0) (bytes 0) (eq-eqb (t .bytes) 0 z));
+      behind = λ l. eqb-true (t .behind) 0 (if-then (ltb (t .bytes) 2) (eqb (t .behind) 0) (bytes 1) (lt-ltb (t .bytes) 2 l));
+      unfinished = if-then (t .unfinished) (not (strobed q)) (part 3);
+      pair = if-then (t .pair) (s .ip && itb q) (part 4);
+    }
+
+pub sound-transfer : {e : Bool} {q : Pattern} {s : Source} {t : Transfer} → TransferSound e q s t → So (soundTransfer e q s t)
+unfolding soundTransfer heldOnly roomOnly bytesOnly unfinishedOnly pairOnly
+sound-transfer {e} {q} {s} {t} h =
+    so-both
+    (so-both
+    (so-both
+    (so-both
+    (only-if (not (handshakes q && e)) (sameTransfer t vacant) (λ n. subst (λ (u : Transfer). So (sameTransfer t u)) (h .held n) (transfer-same t)))
+    (le-leb (t .bytes) (depth q) (h .room)))
+    (so-both
+    (only-if (eqb (t .bytes) 0) (eqb (t .front) 0) (λ z. eq-eqb (t .front) 0 (h .front (eqb-true (t .bytes) 0 z))))
+    (only-if (ltb (t .bytes) 2) (eqb (t .behind) 0) (λ l. eq-eqb (t .behind) 0 (h .behind (ltb-true (t .bytes) 2 l))))))
+    (only-if (t .unfinished) (not (strobed q)) (h .unfinished)))
+    (only-if (t .pair) (s .ip && itb q) (h .pair))
+
 -- ---- the record as reset leaves it, but for the outside pins and IEI
 pub record Cleared (d : Device) : Type 0 where
   pub master : d .master ≡ 1
@@ -101,6 +144,7 @@ pub record Cleared (d : Device) : Type 0 where
   pub vectors : (v : ℕ) → v < 3 → vectorAt d v ≡ 0
   pub ports : (p : ℕ) → p < 3 → portAt d p ≡ bare (portAt d p .outside)
   pub patterns : (p : ℕ) → p < 2 → patternAt d p ≡ blank
+  pub transfers : (p : ℕ) → p < 2 → transferAt d p ≡ vacant
   pub counters : (i : ℕ) → i < 3 → counterAt d i ≡ idle
   pub sources : (k : ℕ) → k < 5 → sourceAt d k ≡ quiet
   pub phase : d .phase ≡ false
@@ -108,7 +152,8 @@ pub record Cleared (d : Device) : Type 0 where
 -- ---- what a step needs of the record after its direct effect
 pub record Base (d : Device) : Type 0 where
   pub config : laterConfig (d .config) ≡ false
-  pub modes : (p : ℕ) → p < 2 → laterPortMode (patternAt d p .mode) ≡ false
+  pub modes : (p : ℕ) → p < 2 → laterPort (patternAt d p) ≡ false
+  pub transfers : (p : ℕ) → p < 2 → TransferSound (portEnabled d p) (patternAt d p) (sourceAt d (ofPort p)) (transferAt d p)
   pub counters : (i : ℕ) → i < 3 → CounterSound (counterEnabled d i) (counterAt d i)
   pub sources : (k : ℕ) → k < 5 → SourceSound (sourceAt d k)
   pub four : FourBits (portAt d 2)

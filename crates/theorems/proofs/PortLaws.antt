@@ -6,11 +6,14 @@ use mathlib.Core.Bool.{Bool, true, false, _&&_, _||_, Bool·beq, So}
 use native.Mathlib.Nat.{mod-lt}
 use native.Mathlib.Omega.{arith}
 use lib.Dec.{eqb, ltb, lit<, ltb→lt}
+use Rattle.rules.specs.declared.Device.{Device}
 use Rattle.rules.specs.declared.Port.{Port}
 use Rattle.basics.specs.Byte.{bit, num, byteOf}
+use Rattle.rules.specs.Record.{portAt}
 use Rattle.rules.specs.Registers.{kept}
+use Rattle.rules.specs.Handshakes.{isLine}
 use Rattle.rules.specs.With.{withCatcher, withPolarity, withDirection, withSpecial, withOutside}
-use Rattle.rules.specs.PortData.{catches, caughtBit, catchesAt, caughtOf, outputBit, clearedBit, putOf, unprotected, writtenData}
+use Rattle.rules.specs.PortData.{catches, caughtBit, catchesAt, caughtOf, directionAt, outputBit, clearedBit, putOf, unprotected, writtenData}
 use Rattle.rules.specs.Sound.{only, catcherOnly, catcherSet, soundPort}
 use Rattle.basics.proofs.Truth.{all3, all4, same}
 use Rattle.basics.proofs.Laws.{bit-byte}
@@ -67,9 +70,9 @@ catcher-four q n l h =
     record { polarity = h .polarity; direction = h .direction; special = h .special; output = h .output; outside = h .outside; catcher = l }
 
 -- "Port C data: D7-D4 protect D3-D0": nothing reaches its upper bits
-pub data-four : (q : Port) (b : ℕ) → FourBits q → FourBits (writtenData q 2 b)
+pub data-four : (q : Port) (direction b : ℕ) → FourBits q → FourBits (writtenData q direction 2 b)
 unfolding writtenData putOf unprotected outputBit clearedBit
-data-four q b h =
+data-four q direction b h =
     let o = upper-off (q .output) (h .output) in
     let c = upper-off (q .catcher) (h .catcher) in
     record {
@@ -87,10 +90,18 @@ no-input : (e s c p : Bool) → caughtBit (catches e false s) c p ≡ false
 unfolding caughtBit catches
 no-input e s c p = same _ _ (all4 (λ e s c p. Bool·beq (e && false && s && (c || p)) false) tt e s c p)
 
-pub caught-four : (e : Bool) (q : Port) (path : ℕ) → FourBits q → FourBits (withCatcher q (caughtOf e q path))
+-- direction in effect, as the port's own
+pub effective-four : (d : Device) → FourBits (portAt d 2) → directionAt d 2 < 16
+unfolding directionAt isLine
+effective-four d h =
+    let u = upper-off (portAt d 2 .direction) (h .direction) in
+    byte-four _ (record { four = u .four; five = u .five; six = u .six; seven = u .seven })
+
+-- the port q, of which r has the direction in effect
+pub caught-four : (e : Bool) (q r : Port) (path : ℕ) → r .direction < 16 → FourBits q → FourBits (withCatcher q (caughtOf e r path))
 unfolding caughtOf catchesAt
-caught-four e q path h =
-    let u = upper-off (q .direction) (h .direction) in
+caught-four e q r path l h =
+    let u = upper-off (r .direction) l in
     catcher-four q _
     (byte-four _ (record { four = simp (u .four, no-input); five = simp (u .five, no-input); six = simp (u .six, no-input); seven = simp (u .seven, no-input) })) h
 

@@ -15,10 +15,10 @@ use Rattle.rules.specs.Report.{noReport}
 use Rattle.rules.specs.Registers.{readOnly, later}
 use Rattle.rules.specs.Interrupts.{requester}
 use Rattle.rules.specs.Sound.{soundOf}
-use Rattle.rules.specs.Events.{isW, isK, unknown, noRegister, tooLarge, held, codeOf, effect, effectOf, answerOf, unsoundAnswer, outcomeOf, eventOf}
+use Rattle.rules.specs.Events.{isW, isK, unknown, noRegister, tooLarge, held, noByte, codeOf, effect, effectOf, answerOf, unsoundAnswer, outcomeOf, eventOf}
 use Rattle.basics.proofs.Tests.{so-both, each, so-not, by-test}
 use Rattle.theorems.proofs.Codes.{refusedReadOnly, refusedLater, refusedIdle, test-9, test-1, test-2, test-5, test-3, test-4}
-use Rattle.theorems.proofs.Codes.{test-6, test-0, write-known, no-register-known, too-large-known, acknowledges}
+use Rattle.theorems.proofs.Codes.{test-11, test-6, test-0, write-known, no-register-known, too-large-known, write-byte, reads, acknowledges}
 
 -- not both, and the one: not the other
 alone : (a b : Bool) → So a → So (not (a && b)) → So (not b)
@@ -72,7 +72,7 @@ module _ (d : Device) (e : Event) where
   refused-answer ne nine =
       ways (λ o. o .answer ≡ answerOf (codeOf d e) (effect d 0)) (λ n. absurd (nine (code-is ∙ n))) (λ z. absurd (ne (code-is ∙ z))) (λ _. refl)
 
-  -- ---- each code is given exactly when: "Order: 9, 1, 2, 5, reset hold, 3, 4, 6."
+  -- ---- each code is given exactly when: "Order: 9, 1, 2, 5, reset hold, 3, 4, 6."; 11 "after 3"
   exactly : (n : ℕ) (x : Bool) → eqb (codeOf d e) n ≡ x → (codeOf d e ≡ n) ↔ So x
   exactly n x p = (λ q. sym p ∙ eq-eqb (codeOf d e) n q, λ s. eqb-true (codeOf d e) n (p ∙ s))
 
@@ -122,6 +122,26 @@ module _ (d : Device) (e : Event) where
             test .1 (so-both (so-both (so-both (so-both (so-both (part 0) (so-not (write-known e (part 1)))) (part 2)) (part 3)) (part 4)) (so-both (part 1) (part 5))),
       )
 
+  -- paper 02, W-203: "11 for a data read with IRF 0"
+  pub code-11 : (codeOf d e ≡ 11) ↔ So (soundOf d && noByte d e)
+  code-11 =
+      let test = exactly 11 _ (test-11 d e) in (
+        λ q.
+            let part =
+            each (soundOf d ∷ not (unknown e) ∷ not (noRegister e) ∷ not (tooLarge e) ∷ not (held d e) ∷ not (refusedReadOnly e) ∷ noByte d e ∷ [])
+            (test .0 q) in
+            so-both (part 0) (part 6),
+        λ s.
+            let part = each (soundOf d ∷ noByte d e ∷ []) s in
+            let r = reads d e (part 1) in
+            test .1
+            (so-both
+            (so-both
+            (so-both (so-both (so-both (so-both (part 0) (so-not (r .known))) (so-not (r .register))) (so-not (r .small))) (so-not (r .free)))
+            (so-not (r .readable)))
+            (part 1)),
+      )
+
   -- "W of a setting left to later requests"
   pub code-4 : (codeOf d e ≡ 4) ↔ So (reaches && not (readOnly (e .a)) && later d (e .a) (e .b))
   code-4 =
@@ -130,14 +150,18 @@ module _ (d : Device) (e : Event) where
       let l = later d (e .a) (e .b) in (
         λ q.
             let part =
-            each (soundOf d ∷ not (unknown e) ∷ not (noRegister e) ∷ not (tooLarge e) ∷ not (held d e) ∷ not (refusedReadOnly e) ∷ refusedLater d e ∷ [])
+            each
+            (soundOf d ∷ not (unknown e) ∷ not (noRegister e) ∷ not (tooLarge e) ∷ not (held d e) ∷ not (refusedReadOnly e) ∷ not (noByte d e) ∷ refusedLater d e ∷ [])
             (test .0 q) in
-            let write = each (isW e ∷ l ∷ []) (part 6) in
+            let write = each (isW e ∷ l ∷ []) (part 7) in
             so-both (so-both (so-both (so-both (so-both (so-both (part 0) (write 0)) (part 2)) (part 3)) (part 4)) (alone (isW e) r (write 0) (part 5))) (write 1),
         λ s.
             let part = each (soundOf d ∷ isW e ∷ not (noRegister e) ∷ not (tooLarge e) ∷ not (held d e) ∷ not r ∷ l ∷ []) s in
             test .1
-            (so-both (so-both (so-both (so-both (so-both (so-both (part 0) (so-not (write-known e (part 1)))) (part 2)) (part 3)) (part 4)) (none (isW e) r (part 5)))
+            (so-both
+            (so-both
+            (so-both (so-both (so-both (so-both (so-both (part 0) (so-not (write-known e (part 1)))) (part 2)) (part 3)) (part 4)) (none (isW e) r (part 5)))
+            (so-not (write-byte d e (part 1))))
             (so-both (part 1) (part 6))),
       )
 
@@ -148,24 +172,29 @@ module _ (d : Device) (e : Event) where
         λ q.
             let part =
             each
-            (soundOf d ∷ not (unknown e) ∷ not (noRegister e) ∷ not (tooLarge e) ∷ not (held d e) ∷ not (refusedReadOnly e) ∷ not (refusedLater d e) ∷ refusedIdle d e ∷ [])
+            (soundOf d ∷ not (unknown e) ∷ not (noRegister e) ∷ not (tooLarge e) ∷ not (held d e)
+            ∷ not (refusedReadOnly e) ∷ not (noByte d e) ∷ not (refusedLater d e) ∷ refusedIdle d e ∷ [])
             (test .0 q) in
-            let idle = each (isK e ∷ eqb (requester d) 5 ∷ []) (part 7) in
+            let idle = each (isK e ∷ eqb (requester d) 5 ∷ []) (part 8) in
             so-both (so-both (part 0) (idle 0)) (idle 1),
         λ s.
             let part = each (soundOf d ∷ isK e ∷ eqb (requester d) 5 ∷ []) s in
             let k = acknowledges d e (part 1) in
+            let u = k .untested in
             test .1
             (so-both
             (so-both
             (so-both
-            (so-both (so-both (so-both (so-both (part 0) (so-not (k .known))) (so-not (k .register))) (so-not (k .small))) (so-not (k .free)))
-            (so-not (k .readable)))
+            (so-both
+            (so-both (so-both (so-both (so-both (part 0) (so-not (u .known))) (so-not (u .register))) (so-not (u .small))) (so-not (u .free)))
+            (so-not (u .readable)))
+            (so-not (k .byte)))
             (so-not (k .now)))
             (so-both (part 1) (part 2))),
       )
 
-  -- "accepted": past 9, 1, 2 and 5, and then held by RESET or past 3, 4 and 6
+  -- "accepted": past 9, 1, 2 and 5, and then held by RESET or past 3, 11, 4 and 6
   pub code-0 : (codeOf d e ≡ 0)
-      ↔ So (soundOf d && not (unknown e) && not (noRegister e) && not (tooLarge e) && (held d e || (not (refusedReadOnly e) && not (refusedLater d e) && not (refusedIdle d e))))
+      ↔ So (soundOf d && not (unknown e) && not (noRegister e) && not (tooLarge e)
+      && (held d e || (not (refusedReadOnly e) && not (noByte d e) && not (refusedLater d e) && not (refusedIdle d e))))
   code-0 = exactly 0 _ (test-0 d e)

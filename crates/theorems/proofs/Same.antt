@@ -9,16 +9,17 @@ use lib.ListN.{length, getD}
 use lib.Seq.{ext-getD}
 use borrow.Author.Tests.{eqb-true}
 use Rattle.rules.specs.declared.Device.{Device}
-use Rattle.rules.specs.Record.{Shaped, vectorAt, portAt, patternAt, counterAt, sourceAt, quiet, idle, bare, blank}
-use Rattle.rules.specs.Sound.{sameSource, sameCounter, samePort, samePattern, sameSources, sameCounters, samePorts, samePatterns, sameVectors, sameOf}
+use Rattle.rules.specs.Record.{Shaped, vectorAt, portAt, patternAt, transferAt, counterAt, sourceAt, quiet, idle, bare, blank, vacant}
+use Rattle.rules.specs.Sound.{sameSource, sameCounter, samePort, samePattern, sameTransfer, sameSources, sameCounters, samePorts, samePatterns, sameTransfers, sameVectors, sameOf}
 use Rattle.basics.proofs.Tabled.{tabled}
 use Rattle.basics.proofs.Tests.{each}
 use Rattle.basics.proofs.Places.{each2, each3, each5}
-use Rattle.theorems.proofs.Equal.{beq-true, beq-refl, eqb-same, same-source, same-counter, same-port, same-pattern, source-same, counter-same, port-same, pattern-same}
+use Rattle.theorems.proofs.Equal.{beq-true, beq-refl, eqb-same, same-source, same-counter, same-port, same-pattern, same-transfer}
+use Rattle.theorems.proofs.Equal.{source-same, counter-same, port-same, pattern-same, transfer-same}
 
 pub same-refl : (d : Device) → sameOf d d ≡ true
-unfolding sameOf sameVectors samePorts samePatterns sameCounters sameSources
-same-refl d = simp (eqb-same, beq-refl, source-same, counter-same, port-same, pattern-same)
+unfolding sameOf sameVectors samePorts samePatterns sameTransfers sameCounters sameSources
+same-refl d = simp (eqb-same, beq-refl, source-same, counter-same, port-same, pattern-same, transfer-same)
 
 -- lists of n elements that are equal at each place
 lists : {A : Type 0} (n : ℕ) (l m : List A) (x : A) → length l ≡ n → length m ≡ n → ((i : ℕ) → i < n → getD l i x ≡ getD m i x) → l ≡ m
@@ -43,6 +44,12 @@ module _ (d e : Device) where
       let part = each (samePattern (patternAt d 0) (patternAt e 0) ∷ samePattern (patternAt d 1) (patternAt e 1) ∷ []) h in
       each2 (λ p. patternAt d p ≡ patternAt e p) (same-pattern _ _ (part 0)) (same-pattern _ _ (part 1))
 
+  transfers-are : So (sameTransfers d e) → (p : ℕ) → p < 2 → transferAt d p ≡ transferAt e p
+  unfolding sameTransfers
+  transfers-are h =
+      let part = each (sameTransfer (transferAt d 0) (transferAt e 0) ∷ sameTransfer (transferAt d 1) (transferAt e 1) ∷ []) h in
+      each2 (λ p. transferAt d p ≡ transferAt e p) (same-transfer _ _ (part 0)) (same-transfer _ _ (part 1))
+
   counters-are : So (sameCounters d e) → (i : ℕ) → i < 3 → counterAt d i ≡ counterAt e i
   unfolding sameCounters
   counters-are h =
@@ -62,14 +69,15 @@ module _ (d e : Device) where
       let part =
       each
       (eqb (d .master) (e .master) ∷ eqb (d .config) (e .config)
-      ∷ sameVectors d e ∷ samePorts d e ∷ samePatterns d e ∷ sameCounters d e ∷ sameSources d e
+      ∷ sameVectors d e ∷ samePorts d e ∷ samePatterns d e ∷ sameTransfers d e ∷ sameCounters d e ∷ sameSources d e
       ∷ Bool·beq (d .iei) (e .iei) ∷ Bool·beq (d .phase) (e .phase) ∷ [])
       h in
       let vectors = lists 3 (d .vectors) (e .vectors) 0 (s .vectors) (t .vectors) (vectors-are (part 2)) in
       let ports = lists 3 (d .ports) (e .ports) (bare 0) (s .ports) (t .ports) (ports-are (part 3)) in
       let patterns = lists 2 (d .patterns) (e .patterns) blank (s .patterns) (t .patterns) (patterns-are (part 4)) in
-      let counters = lists 3 (d .counters) (e .counters) idle (s .counters) (t .counters) (counters-are (part 5)) in
-      let sources = lists 5 (d .sources) (e .sources) quiet (s .sources) (t .sources) (sources-are (part 6)) in
+      let transfers = lists 2 (d .transfers) (e .transfers) vacant (s .transfers) (t .transfers) (transfers-are (part 5)) in
+      let counters = lists 3 (d .counters) (e .counters) idle (s .counters) (t .counters) (counters-are (part 6)) in
+      let sources = lists 5 (d .sources) (e .sources) quiet (s .sources) (t .sources) (sources-are (part 7)) in
       λ i.
       record {
         master = eqb-true (d .master) (e .master) (part 0) i;
@@ -77,8 +85,9 @@ module _ (d e : Device) where
         vectors = vectors i;
         ports = ports i;
         patterns = patterns i;
+        transfers = transfers i;
         counters = counters i;
         sources = sources i;
-        iei = beq-true (d .iei) (e .iei) (part 7) i;
-        phase = beq-true (d .phase) (e .phase) (part 8) i;
+        iei = beq-true (d .iei) (e .iei) (part 8) i;
+        phase = beq-true (d .phase) (e .phase) (part 9) i;
       }

@@ -11,9 +11,10 @@ use Rattle.rules.specs.declared.Device.{Device}
 use Rattle.rules.specs.declared.Counted.{Counted}
 use Rattle.rules.specs.declared.Link.{Link}
 use Rattle.rules.specs.Record.{portAt, patternAt, counterAt, sourceAt, bare, blank, ofPort, ofCounter}
-use Rattle.rules.specs.With.{withPattern, withCounter, withIp, withHidden, withPmf}
-use Rattle.rules.specs.Registers.{portEnabled, counterOn, counterEnabled}
-use Rattle.rules.specs.PortData.{valueAt, pinsOf, pathOf, pinsAt, pathAt, seenAt}
+use Rattle.rules.specs.With.{withPattern, withCounter, withSource, withIp, withHidden, withPmf}
+use Rattle.rules.specs.Registers.{portOn, portEnabled, counterOn, counterEnabled}
+use Rattle.rules.specs.Handshakes.{isLine}
+use Rattle.rules.specs.PortData.{directionAt, specialAt, effectiveAt, lined, valueAt, pinsOf, pathOf, pinsAt, pathAt, seenAt}
 use Rattle.rules.specs.Counters.{unlinked, reachOf, turnOf}
 use Rattle.rules.specs.Patterns.{matchOf}
 use Rattle.rules.specs.Step.{linesAt, eventAt, turned, counterTurn, caughtAt, catchers, matchedBy, patternTurn, settled, stepOf}
@@ -24,15 +25,19 @@ use Rattle.theorems.proofs.Parts.{CounterSound, Cleared, Base, Sound}
 use Rattle.theorems.proofs.CounterLaws.{turn-sound, turn-off}
 use Rattle.theorems.proofs.SourceLaws.{ip-sound, hidden-sound}
 use Rattle.theorems.proofs.Fates.{by-source, by-fate}
-use Rattle.theorems.proofs.PortLaws.{caught-four, caught-off, caught-sound}
+use Rattle.theorems.proofs.PortLaws.{effective-four, caught-four, caught-off, caught-sound}
+use Rattle.theorems.proofs.Effective.{port-kept}
 use Rattle.theorems.proofs.PatternLaws.{pmf-sound, match-off}
+use Rattle.theorems.proofs.TransferLaws.{settings-kept}
+use Rattle.theorems.proofs.Frame.{pmf-modes}
 use Rattle.theorems.proofs.Stores.{cleared-ports, cleared-pattern, cleared-counter, base-ports, base-pattern, base-counter, base-source}
 
 -- ---- an event at a source; under RESET there is none
 event-base : (d : Device) (k : ℕ) (hides happens : Bool) → Base d → (Cleared d → happens ≡ false) → Base (eventAt d k hides happens)
 event-base d k hides happens h f =
-    by-fate Base d k hides happens h (λ t. base-source d k (withIp (sourceAt d k) true) h (ip-sound (sourceAt d k)) (λ c. never (f c) t))
-    (λ t p. base-source d k (withHidden (sourceAt d k) true) h (λ _. hidden-sound (sourceAt d k) p) (λ c. never (f c) t))
+    by-fate Base d k hides happens h
+    (λ t. base-source d k (withIp (sourceAt d k) true) h (ip-sound (sourceAt d k)) (λ _ _ _ _. refl) (λ c. never (f c) t))
+    (λ t p. base-source d k (withHidden (sourceAt d k) true) h (λ _. hidden-sound (sourceAt d k) p) (λ _ _ _ i. i) (λ c. never (f c) t))
 
 -- ---- (b), (c), (d): a counter's turn; under RESET it is not enabled
 turned-base : (d : Device) (i : ℕ) (r : Counted) → Base d
@@ -55,7 +60,7 @@ counter-base link timer were are i d off h =
 
 -- ---- (e): the catchers
 port-off : (d : Device) (p : ℕ) → p < 3 → d .config ≡ 0 → portEnabled d p ≡ false
-unfolding portEnabled
+unfolding portOn
 port-off d p l c =
     each3 (λ p. portEnabled d p ≡ false) (simp c) (simp c) (simp c) p l
 
@@ -63,7 +68,7 @@ caught-bare : (d : Device) → Cleared d → (p : ℕ) → p < 3 → caughtAt d 
 unfolding caughtAt
 caught-bare d h p l =
     let e = h .ports p l in
-    let z = caught-off (portEnabled d p) (portAt d p) (pathAt d p) (port-off d p l (h .config)) in
+    let z = caught-off (portEnabled d p) (effectiveAt d p) (pathAt d p) (port-off d p l (h .config)) in
     λ i.
     record {
       polarity = e i .polarity;
@@ -78,7 +83,7 @@ catchers-base : (d : Device) → Base d → Base (catchers d)
 unfolding catchers caughtAt
 catchers-base d h =
     let qs = caughtAt d 0 ∷ caughtAt d 1 ∷ caughtAt d 2 ∷ [] in
-    base-ports d qs h (caught-four (portEnabled d 2) (portAt d 2) (pathAt d 2) (h .four))
+    base-ports d qs h (caught-four (portEnabled d 2) (portAt d 2) (effectiveAt d 2) (pathAt d 2) (effective-four d (h .four)) (h .four))
     (λ c.
     cleared-ports d qs c
     (each3 (λ p. getD qs p (bare 0) ≡ bare (getD qs p (bare 0) .outside))
@@ -86,12 +91,12 @@ catchers-base d h =
 
 -- the paths do not go by the catchers
 catchers-ports : (d : Device) (p : ℕ) → p < 3 → So (soundPortAt (catchers d) p)
-unfolding soundPortAt catchers caughtAt pathAt pinsAt pinsOf pathOf valueAt portEnabled
+unfolding soundPortAt catchers caughtAt pathAt pinsAt pinsOf pathOf directionAt specialAt valueAt lined isLine
 catchers-ports d =
     each3 (λ p. So (soundPortAt (catchers d) p))
-    (caught-sound (portEnabled d 0) (portAt d 0) (pathAt d 0))
-    (caught-sound (portEnabled d 1) (portAt d 1) (pathAt d 1))
-    (caught-sound (portEnabled d 2) (portAt d 2) (pathAt d 2))
+    (caught-sound (portEnabled d 0) (effectiveAt d 0) (pathAt d 0))
+    (caught-sound (portEnabled d 1) (effectiveAt d 1) (pathAt d 1))
+    (caught-sound (portEnabled d 2) (effectiveAt d 2) (pathAt d 2))
 
 -- ---- (f): a pattern's turn
 pmf-blank : (q : Pattern) (m : Bool) → m ≡ false → q ≡ blank → withPmf q m ≡ blank
@@ -114,35 +119,34 @@ pattern-base p before d l h =
     let m = matchOf (portEnabled d p) q before (seenAt d p) in
     let off : d .config ≡ 0 → m ≡ false = λ c. match-off (portEnabled d p) q before (seenAt d p) (port-off d p l c) in
     event-base (withPattern d p (withPmf q m)) (ofPort p) (q .ioe) (m && not (q .pmf))
-    (base-pattern d p (withPmf q m) h (λ x. x) (λ c. cleared-pattern d p (withPmf q m) c (pmf-blank q m (off (c .config)))))
+    (base-pattern d p (withPmf q m) h (λ x. x) (settings-kept refl refl) (λ c. cleared-pattern d p (withPmf q m) c (pmf-blank q m (off (c .config)))))
     (λ c. simp (off (c .config)))
 
--- what goes by the configuration, the ports and the counters, or by the patterns, an event at a source leaves
+-- what goes by the configuration, the ports and the patterns, an event at a source leaves
 event-ports : (d : Device) (k : ℕ) (hides happens : Bool) (p : ℕ) → So (soundPortAt d p) → So (soundPortAt (eventAt d k hides happens) p)
-unfolding soundPortAt pathAt pinsAt valueAt portEnabled
-event-ports d k hides happens p h = by-source (λ e. So (soundPortAt e p)) d k hides happens h (λ _. h)
+event-ports d k hides happens p h =
+    by-source (λ e. So (soundPortAt e p)) d k hides happens h (λ s. port-kept d (withSource d k s) refl (λ _. refl) p refl h)
 
 event-patterns : (d : Device) (k : ℕ) (hides happens : Bool) (p : ℕ) → So (pmfOnly (portEnabled d p) (patternAt d p))
     → So (pmfOnly (portEnabled (eventAt d k hides happens) p) (patternAt (eventAt d k hides happens) p))
-unfolding portEnabled
 event-patterns d k hides happens p h =
     by-source (λ (e : Device). So (pmfOnly (portEnabled e p) (patternAt e p))) d k hides happens h (λ _. h)
 
 module _ (p before : ℕ) (d : Device) where
   pattern-ports : (j : ℕ) → So (soundPortAt d j) → So (soundPortAt (patternTurn p before d) j)
-  unfolding patternTurn matchedBy soundPortAt pathAt pinsAt valueAt portEnabled
-  pattern-ports j h = event-ports (withPattern d p _) _ _ _ j h
+  unfolding patternTurn matchedBy
+  pattern-ports j h = event-ports (withPattern d p _) _ _ _ j (port-kept d (withPattern d p _) refl (pmf-modes d p _) j refl h)
 
   -- at its own place, from nothing; and at the other
   pattern-here : So (pmfOnly (portEnabled (patternTurn p before d) p) (patternAt (patternTurn p before d) p))
-  unfolding patternTurn matchedBy portEnabled pmfOnly
+  unfolding patternTurn matchedBy pmfOnly
   pattern-here =
       event-patterns (withPattern d p _) _ _ _ p
       (set-gives (λ q. So (pmfOnly (portEnabled d p) q)) (d .patterns) p _ blank (pmf-sound (portEnabled d p) (patternAt d p) before (seenAt d p)) refl)
 
   pattern-there : (j : ℕ) → So (pmfOnly (portEnabled d j) (patternAt d j))
       → So (pmfOnly (portEnabled (patternTurn p before d) j) (patternAt (patternTurn p before d) j))
-  unfolding patternTurn matchedBy portEnabled
+  unfolding patternTurn matchedBy
   pattern-there j h =
       event-patterns (withPattern d p _) _ _ _ j
       (set-keeps (λ j q. So (pmfOnly (portEnabled d j) q)) (d .patterns) p j _ blank

@@ -2,8 +2,9 @@
 -- Assumes nothing.
 use Prim.Native.Nat.{ℕ, _/_, _<_}
 use mathlib.Core.Path.{_≡_, refl, sym, ap, subst}
-use mathlib.Core.Bool.{Bool, false, So}
+use mathlib.Core.Bool.{Bool, true, false, not, _&&_, _||_, So}
 use mathlib.Core.List.{[], _∷_}
+use native.Mathlib.Omega.{arith}
 use lib.Dec.{eqb, lit<}
 use lib.ListN.{getD, set}
 use borrow.Author.Tests.{eqb-true}
@@ -15,21 +16,24 @@ use Rattle.rules.specs.declared.Kind.{Kind}
 use Rattle.rules.specs.declared.Kind.the-variants.{Master, Config, Vector, Polarity, Direction, Special, PortCommand, CounterCommand}
 use Rattle.rules.specs.declared.Kind.the-variants.{Data, Current, Constant, CounterMode, CurrentVector, PortMode, Handshake, PatternPolarity, Transition, Mask, Absent}
 use Rattle.basics.specs.Byte.{bit, withByte}
-use Rattle.rules.specs.Record.{portAt, patternAt, counterAt, sourceAt, quiet, idle, bare, blank, ofPort, ofCounter, resetOf}
-use Rattle.rules.specs.With.{withMaster, withVector, withPort, withPattern, withCounter, withIoe, withPolarity, withDirection, withSpecial, withConstant, withMode, withOutside}
-use Rattle.rules.specs.Registers.{reset, counterOn, counterEnabled, kept, commanded, laterConfig, laterPortMode, laterCounterMode}
+use Rattle.rules.specs.Record.{portAt, patternAt, transferAt, counterAt, sourceAt, quiet, idle, bare, blank, vacant, ofPort, ofCounter, resetOf}
+use Rattle.rules.specs.With.{withMaster, withVector, withPort, withPattern, withTransfer, withCounter, withIoe, withPair, withPortMode, withHandshake}
+use Rattle.rules.specs.With.{withPolarity, withDirection, withSpecial, withConstant, withMode, withOutside}
+use Rattle.rules.specs.Registers.{reset, portOn, counterOn, counterEnabled, kept, commanded, laterConfig, laterPortMode, laterHandshake, laterCounterMode}
 use Rattle.rules.specs.Counters.{commandedBy}
-use Rattle.rules.specs.PortData.{writtenData}
-use Rattle.rules.specs.Access.{masterWritten, configWritten, portCommanded, counterCommanded, writtenOf}
+use Rattle.rules.specs.PortData.{directionAt, writtenData}
+use Rattle.rules.specs.Access.{masterWritten, configWritten, clearsIp, portCommanded, counterCommanded, setUp, writtenOf}
+use Rattle.rules.specs.Sound.{laterPort}
 use Rattle.rules.specs.Events.{outsideSet}
-use Rattle.basics.proofs.Tests.{never, by-test}
-use Rattle.basics.proofs.Places.{each2, each3, each5, set-keeps}
+use Rattle.basics.proofs.Tests.{right, never, by-test}
+use Rattle.basics.proofs.Places.{each2, each3, each5, set-keeps, set-gives}
 use Rattle.theorems.proofs.Parts.{SourceSound, CounterSound, FourBits, Cleared, Base}
 use Rattle.theorems.proofs.Addresses.{laterKind}
 use Rattle.theorems.proofs.CounterLaws.{commanded-sound, enabled-sound, constant-sound, mode-sound}
-use Rattle.theorems.proofs.SourceLaws.{commanded-source}
+use Rattle.theorems.proofs.SourceLaws.{commanded-source, commanded-ip}
+use Rattle.theorems.proofs.TransferLaws.{vacant-sound, settings-kept, kept-sound, pair-sound}
 use Rattle.theorems.proofs.PortLaws.{kept-four, polarity-four, direction-four, special-four, outside-four, data-four}
-use Rattle.theorems.proofs.Stores.{cleared-ports, base-ports, base-pattern, base-counter, base-source}
+use Rattle.theorems.proofs.Stores.{cleared-ports, base-ports, TransferAt, base-pattern, base-transfer, base-counter, base-source}
 
 -- a record as reset leaves it is under RESET
 pub awake : {A : Type 0} {d : Device} → reset d ≡ false → Cleared d → A
@@ -45,6 +49,7 @@ reset-cleared d =
       vectors = each3 (λ v. getD (0 ∷ 0 ∷ 0 ∷ []) v 0 ≡ 0) refl refl refl;
       ports = each3 (λ p. portAt (resetOf d) p ≡ bare (portAt (resetOf d) p .outside)) refl refl refl;
       patterns = each2 (λ p. patternAt (resetOf d) p ≡ blank) refl refl;
+      transfers = each2 (λ p. transferAt (resetOf d) p ≡ vacant) refl refl;
       counters = each3 (λ i. counterAt (resetOf d) i ≡ idle) refl refl refl;
       sources = each5 (λ k. sourceAt (resetOf d) k ≡ quiet) refl refl refl refl refl;
       phase = refl;
@@ -58,11 +63,13 @@ quiet-sound : SourceSound quiet
 quiet-sound = record { err = λ p. p; hidden = λ p. p }
 
 pub reset-base : (d : Device) → portAt d 2 .outside < 16 → Base (resetOf d)
-unfolding resetOf laterConfig laterPortMode
+unfolding resetOf laterConfig laterPortMode laterHandshake
 reset-base d h =
     record {
       config = refl;
-      modes = each2 (λ p. laterPortMode (patternAt (resetOf d) p .mode) ≡ false) refl refl;
+      modes = each2 (λ p. laterPort (patternAt (resetOf d) p) ≡ false) refl refl;
+      transfers =
+          each2 (λ p. TransferAt (resetOf d) p (patternAt (resetOf d) p) (transferAt (resetOf d) p)) (vacant-sound _ _ _) (vacant-sound _ _ _);
       counters =
           each3 (λ i. CounterSound (counterEnabled (resetOf d) i) (counterAt (resetOf d) i)) (idle-sound _) (idle-sound _) (idle-sound _);
       sources = each5 (λ k. SourceSound (sourceAt (resetOf d) k)) quiet-sound quiet-sound quiet-sound quiet-sound quiet-sound;
@@ -78,6 +85,7 @@ master-base d b h =
     record {
       config = h .config;
       modes = h .modes;
+      transfers = h .transfers;
       counters = h .counters;
       sources = h .sources;
       four = h .four;
@@ -101,8 +109,19 @@ outside-base d a b c l h =
 kept-small : (p b : ℕ) → So (eqb p 2) → kept p b < 16
 kept-small p b e = subst (λ (n : ℕ). kept n b < 16) (sym (eqb-true p 2 e)) (kept-four b)
 
-data-small : (q : Port) (p b : ℕ) → So (eqb p 2) → FourBits q → FourBits (writtenData q p b)
-data-small q p b e h = subst (λ (n : ℕ). FourBits (writtenData q n b)) (sym (eqb-true p 2 e)) (data-four q b h)
+data-small : (q : Port) (direction p b : ℕ) → So (eqb p 2) → FourBits q → FourBits (writtenData q direction p b)
+data-small q direction p b e h = subst (λ (n : ℕ). FourBits (writtenData q direction n b)) (sym (eqb-true p 2 e)) (data-four q direction b h)
+
+-- a source is one port's, and none of a counter
+pub one-port : (j p : ℕ) → ofPort j ≡ ofPort p → j ≡ p
+one-port j p e = omega arith
+
+no-port : (p i : ℕ) → ofPort p ≡ ofCounter i → ⊥
+no-port p i e = omega arith
+
+neither : (a b c : Bool) → (a || b) ≡ false → c ≡ false → (a || c) ≡ false
+neither true b c h g = h
+neither false b c h g = g
 
 module _ (d : Device) (h : Base d) (z : reset d ≡ false) where
   config-base : (b : ℕ) → laterConfig b ≡ false → Base (configWritten d b)
@@ -111,6 +130,9 @@ module _ (d : Device) (h : Base d) (z : reset d ≡ false) where
       record {
         config = l;
         modes = h .modes;
+        transfers =
+            each2 (λ p. TransferAt (configWritten d b) p (patternAt d p) (transferAt (configWritten d b) p))
+            (kept-sound (portOn b 0) (h .transfers 0 (lit< tt))) (kept-sound (portOn b 1) (h .transfers 1 (lit< tt)));
         counters =
             each3 (λ i. CounterSound (counterEnabled (configWritten d b) i) (counterAt (configWritten d b) i))
             (enabled-sound (counterOn b 0) (counterAt d 0) (h .counters 0 (lit< tt)))
@@ -126,6 +148,7 @@ module _ (d : Device) (h : Base d) (z : reset d ≡ false) where
       record {
         config = h .config;
         modes = h .modes;
+        transfers = h .transfers;
         counters = h .counters;
         sources = h .sources;
         four = h .four;
@@ -141,24 +164,44 @@ module _ (d : Device) (h : Base d) (z : reset d ≡ false) where
       → Base (withCounter d i c)
   counter-base i c f = base-counter d i c h f (awake z)
 
-  pattern-base : (p : ℕ) (q : Pattern) → (laterPortMode (patternAt d p .mode) ≡ false → laterPortMode (q .mode) ≡ false)
-      → Base (withPattern d p q)
-  pattern-base p q f = base-pattern d p q h f (awake z)
+  -- a pattern with the port's mode and handshake as they are
+  pattern-base : (p : ℕ) (q : Pattern) → q .mode ≡ patternAt d p .mode → q .handshake ≡ patternAt d p .handshake → Base (withPattern d p q)
+  pattern-base p q m n = base-pattern d p q h (λ x. simp (m, n) x) (settings-kept m n) (awake z)
+
+  -- and a port set up anew, which holds nothing
+  emptied : (p : ℕ) → Base (withTransfer d p vacant)
+  emptied p = base-transfer d p vacant h (λ _. vacant-sound _ _ _) (awake z)
+
+  set-up-base : (p : ℕ) (q : Pattern) → (laterPort (patternAt d p) ≡ false → laterPort q ≡ false) → Base (setUp d p q)
+  set-up-base p q f =
+      let e = withTransfer d p vacant in
+      base-pattern e p q (emptied p) f
+      (λ _. set-gives (λ t. TransferAt e p q t) (d .transfers) p vacant vacant (vacant-sound _ _ _) (vacant-sound _ _ _)) (awake z)
 
   port-command-base : (p b : ℕ) → Base (portCommanded d p b)
   unfolding portCommanded
   port-command-base p b =
-      base-source (withPattern d p (withIoe (patternAt d p) (bit b 0))) (ofPort p) (commanded (sourceAt d (ofPort p)) (b / 32))
-      (pattern-base p (withIoe (patternAt d p) (bit b 0)) (λ m. m)) (commanded-source (sourceAt d (ofPort p)) (b / 32)) (awake z)
+      let s = sourceAt d (ofPort p) in
+      let keeps = not (clearsIp (b / 32)) in
+      let t = withPair (transferAt d p) (transferAt d p .pair && keeps) in
+      let halved : So (getD (set (d .transfers) p t) p vacant .pair) → So keeps =
+      set-gives (λ u. So (u .pair) → So keeps) (d .transfers) p t vacant (right (transferAt d p .pair) keeps) (λ n. never refl n) in
+      let e = withTransfer d p t in
+      let f = withPattern e p (withIoe (patternAt d p) (bit b 0)) in
+      base-source f (ofPort p) (commanded s (b / 32))
+      (base-pattern e p (withIoe (patternAt d p) (bit b 0)) (base-transfer d p t h (pair-sound (transferAt d p) keeps) (awake z)) (λ m. m)
+      (settings-kept refl refl) (awake z))
+      (commanded-source s (b / 32))
+      (λ j q r. commanded-ip s (b / 32) (halved (subst (λ (i : ℕ). So (transferAt e i .pair)) (one-port j p q) r))) (awake z)
 
   counter-command-base : (i b : ℕ) → Base (counterCommanded d i b)
   unfolding counterCommanded
   counter-command-base i b =
       base-source (withCounter d i (commandedBy (counterEnabled d i) b (counterAt d i))) (ofCounter i) (commanded (sourceAt d (ofCounter i)) (b / 32))
       (counter-base i (commandedBy (counterEnabled d i) b (counterAt d i)) (commanded-sound b (counterAt d i)))
-      (commanded-source (sourceAt d (ofCounter i)) (b / 32)) (awake z)
+      (commanded-source (sourceAt d (ofCounter i)) (b / 32)) (λ p q _. absurd (no-port p i q)) (awake z)
 
-  pub written-base : (k : Kind) (b : ℕ) → laterKind k b ≡ false → Base (writtenOf d k b)
+  pub written-base : (k : Kind) (b : ℕ) → laterKind d k b ≡ false → Base (writtenOf d k b)
   unfolding writtenOf
   written-base Master b l = master-base d b h
   written-base Config b l = config-base b l
@@ -171,16 +214,16 @@ module _ (d : Device) (h : Base d) (z : reset d ≡ false) where
       port-base p (withSpecial (portAt d p) (kept p b)) (λ e g. special-four (portAt d p) (kept p b) (kept-small p b e) g)
   written-base (PortCommand p) b l = port-command-base p b
   written-base (CounterCommand i) b l = counter-command-base i b
-  written-base (Data p) b l = port-base p (writtenData (portAt d p) p b) (data-small (portAt d p) p b)
+  written-base (Data p) b l = port-base p (writtenData (portAt d p) (directionAt d p) p b) (data-small (portAt d p) (directionAt d p) p b)
   written-base (Current i high) b l = h
   written-base (Constant i high) b l =
       counter-base i (withConstant (counterAt d i) (withByte high (counterAt d i .constant) b))
       (constant-sound (counterAt d i) (withByte high (counterAt d i .constant) b))
   written-base (CounterMode i) b l = counter-base i (withMode (counterAt d i) b) (mode-sound (counterAt d i) b l)
   written-base CurrentVector b l = h
-  written-base (PortMode p) b l = pattern-base p _ (λ _. l)
-  written-base (Handshake p) b l = pattern-base p _ (λ m. m)
-  written-base (PatternPolarity p) b l = pattern-base p _ (λ m. m)
-  written-base (Transition p) b l = pattern-base p _ (λ m. m)
-  written-base (Mask p) b l = pattern-base p _ (λ m. m)
+  written-base (PortMode p) b l = set-up-base p (withPortMode (patternAt d p) b) (λ _. l)
+  written-base (Handshake p) b l = set-up-base p (withHandshake (patternAt d p) b) (λ m. neither (laterPortMode (patternAt d p .mode)) _ _ m l)
+  written-base (PatternPolarity p) b l = pattern-base p _ refl refl
+  written-base (Transition p) b l = pattern-base p _ refl refl
+  written-base (Mask p) b l = pattern-base p _ refl refl
   written-base Absent b l = h

@@ -25,12 +25,12 @@ fn opened(p: usize, b: u8) -> u8
     255
 }
 
-// A write of data to port p.
-pub(crate) fn put(q: Port, p: usize, b: u8) -> Port
-    ensures { λ r. ⌜ r ≡ writtenData q p b ⌝ }
+// A write of data to port p, with the direction that is in effect.
+pub(crate) fn put(q: Port, direction: u8, p: usize, b: u8) -> Port
+    ensures { λ r. ⌜ r ≡ writtenData q direction p b ⌝ }
 {
     let m = opened(p, b);
-    let through = m & (q.direction ^ 255);
+    let through = m & (direction ^ 255);
     let mut e = q;
     e.output = (b & through) | (q.output & (through ^ 255));
     e.catcher = q.catcher & ((m & (b ^ 255)) ^ 255);

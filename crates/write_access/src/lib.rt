@@ -4,18 +4,19 @@ mod data;
 ghost use mathlib.Core.Path.{_≡_};
 ghost use Prim.Native.Nat.{_<_};
 ghost use Rattle.basics.specs.Byte.{withByte};
-ghost use Rattle.rules.specs.Record.{portAt, patternAt, counterAt};
+ghost use Rattle.rules.specs.Record.{portAt, patternAt, counterAt, vacant};
 ghost use Rattle.rules.specs.With.{withVector, withPort, withPattern, withCounter, withPolarity, withDirection, withSpecial, withConstant, withMode};
 ghost use Rattle.rules.specs.With.{withPortMode, withHandshake, withPatternPolarity, withTransition, withMask};
 ghost use Rattle.rules.specs.Registers.{kindOf, kept};
 ghost use Rattle.rules.specs.Counters.{enabledBy};
-ghost use Rattle.rules.specs.PortData.{writtenData};
-ghost use Rattle.rules.specs.Access.{masterWritten, configWritten, portCommanded, counterCommanded, writtenOf};
+ghost use Rattle.rules.specs.PortData.{directionAt, writtenData};
+ghost use Rattle.rules.specs.Access.{masterWritten, keptBy, configWritten, portCommanded, counterCommanded, setUp, writtenOf};
 ghost use Rattle.registers.specs.Place.{place, places};
 use rules::Counter;
 use rules::Device;
 use rules::Kind;
 use rules::Source;
+use rules::Transfer;
 
 fn write_master(d: Device, b: u8) -> Device
     ensures { λ r. ⌜ r ≡ masterWritten d b ⌝ }
@@ -42,6 +43,28 @@ fn enable(v: bool, c: Counter) -> Counter
     off
 }
 
+// What a port holds, where its enable is written.
+fn keep(v: bool, t: Transfer) -> Transfer
+    ensures { λ r. ⌜ r ≡ keptBy v t ⌝ }
+{
+    if v {
+        return t;
+    }
+    none_held()
+}
+
+fn none_held() -> Transfer
+    ensures { λ r. ⌜ r ≡ vacant ⌝ }
+{
+    Transfer {
+        front: 0,
+        behind: 0,
+        bytes: 0,
+        unfinished: false,
+        pair: false,
+    }
+}
+
 fn write_config(d: Device, b: u8) -> Device
     ensures { λ r. ⌜ r ≡ configWritten d b ⌝ }
 {
@@ -51,6 +74,10 @@ fn write_config(d: Device, b: u8) -> Device
     let mut e = d;
     e.config = b;
     e.counters = [c1, c2, c3];
+    e.transfers = [
+        keep(levels::port_on(b, 0), d.transfers[0]),
+        keep(levels::port_on(b, 1), d.transfers[1]),
+    ];
     e
 }
 
@@ -99,6 +126,7 @@ fn command_port(d: Device, p: usize, b: u8) -> Device
     let mut e = d;
     e.patterns[p].ioe = b % 2 == 1;
     e.sources[k] = s;
+    e.transfers[p].pair = d.transfers[p].pair & !((b / 32 == 1) | (b / 32 == 5));
     e
 }
 
@@ -117,9 +145,9 @@ fn command_counter(d: Device, i: usize, b: u8) -> Device
 
 fn write_data(d: Device, p: usize, b: u8) -> Device
     requires { ⌜ p < 3 ⌝ }
-    ensures { λ r. ⌜ r ≡ withPort d p (writtenData (portAt d p) p b) ⌝ }
+    ensures { λ r. ⌜ r ≡ withPort d p (writtenData (portAt d p) (directionAt d p) p b) ⌝ }
 {
-    let q = data::put(d.ports[p], p, b);
+    let q = data::put(d.ports[p], levels::direction_at(d, p), p, b);
     let mut e = d;
     e.ports[p] = q;
     e
@@ -146,19 +174,21 @@ fn write_mode(d: Device, i: usize, b: u8) -> Device
 
 fn write_port_mode(d: Device, p: usize, b: u8) -> Device
     requires { ⌜ p < 2 ⌝ }
-    ensures { λ r. ⌜ r ≡ withPattern d p (withPortMode (patternAt d p) b) ⌝ }
+    ensures { λ r. ⌜ r ≡ setUp d p (withPortMode (patternAt d p) b) ⌝ }
 {
     let mut e = d;
     e.patterns[p].mode = b;
+    e.transfers[p] = none_held();
     e
 }
 
 fn write_handshake(d: Device, p: usize, b: u8) -> Device
     requires { ⌜ p < 2 ⌝ }
-    ensures { λ r. ⌜ r ≡ withPattern d p (withHandshake (patternAt d p) b) ⌝ }
+    ensures { λ r. ⌜ r ≡ setUp d p (withHandshake (patternAt d p) b) ⌝ }
 {
     let mut e = d;
     e.patterns[p].handshake = b;
+    e.transfers[p] = none_held();
     e
 }
 

@@ -9,8 +9,8 @@ use Rattle.clocks.proofs.came_back.Tie as tie
 -- both records have the parts of a Z8036
 shapes : (c : tie.Start) → Shaped (c .args .now) × Shaped (c .args .then)
 shapes c = (
-  record { vectors = search needs; ports = search of-map; patterns = search of-map; counters = search of-map; sources = search of-map },
-  record { vectors = search needs; ports = search of-map; patterns = search of-map; counters = search of-map; sources = search of-map },
+  record { vectors = search needs; ports = search of-map; patterns = search of-map; transfers = search of-map; counters = search of-map; sources = search of-map },
+  record { vectors = search needs; ports = search of-map; patterns = search of-map; transfers = search of-map; counters = search of-map; sources = search of-map },
 )
 
 same-requires : tie.Need-same-requires

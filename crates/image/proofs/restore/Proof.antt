@@ -1,7 +1,6 @@
 use mathlib.Core.Path.{sym, ap, _∙_}
 use borrow.Author.Tests.{eq-eqb, ne-eqb, not-true, not-false}
-use Rattle.rules.specs.Sound.{soundOf}
-use Rattle.image.specs.Image.{restoredOf}
+use Rattle.image.specs.Image.{savable, restoredOf}
 use borrow.Author.Needs.{needs}
 use Rattle.image.proofs.restore.Statement.{statement}
 use Rattle.image.proofs.restore.Tie as tie
@@ -58,8 +57,8 @@ returns-3 c =
 read-requires : tie.Need-read-requires
 read-requires c κs = search needs
 
-sound-requires : tie.Need-sound-requires
-sound-requires c κs = search needs
+is-savable-requires : tie.Need-is-savable-requires
+is-savable-requires c κs = search needs
 
 refuse-requires-4 : tie.Need-refuse-requires-4
 refuse-requires-4 c κs = search needs
@@ -72,9 +71,9 @@ returns-4 c =
     let at-table = at-clear .before .before in
     let same = sym (at-table .same-bytes .ensures) ∙ not-false _ (at-clear .before .if2 .left) in
     let clear = sym (at-clear .is-clear .ensures) ∙ not-false _ (at-read .before .if3 .left) in
-    let sound = ap soundOf (sym (at-read .read .ensures)) ∙ sym (c .before .before .sound .ensures) ∙ not-true _ (c .before .if4 .taken) in
+    let saves = ap savable (sym (at-read .read .ensures)) ∙ sym (c .before .before .is-savable .ensures) ∙ not-true _ (c .before .if4 .taken) in
     let long = eq-eqb _ _ (at-table .before .before .before .if1 .left) in
-    simp (long, same, clear, sound, c .refuse4 .ensures)
+    simp (long, same, clear, saves, c .refuse4 .ensures)
 
 returns-5 : tie.Need-returns-5
 unfolding restoredOf
@@ -84,9 +83,9 @@ returns-5 c =
     let at-table = at-clear .before .before in
     let same = sym (at-table .same-bytes .ensures) ∙ not-false _ (at-clear .before .if2 .left) in
     let clear = sym (at-clear .is-clear .ensures) ∙ not-false _ (at-read .before .if3 .left) in
-    let sound = ap soundOf (sym (at-read .read .ensures)) ∙ sym (c .before .sound .ensures) ∙ not-false _ (c .if4 .left) in
+    let saves = ap savable (sym (at-read .read .ensures)) ∙ sym (c .before .is-savable .ensures) ∙ not-false _ (c .if4 .left) in
     let long = eq-eqb _ _ (at-table .before .before .before .if1 .left) in
-    simp (long, same, clear, sound, at-read .read .ensures)
+    simp (long, same, clear, saves, at-read .read .ensures)
 
 pub restore-spec : {M : Type 1} → statement M
 restore-spec =
@@ -105,7 +104,7 @@ restore-spec =
     refuse-requires-3
     returns-3
     read-requires
-    sound-requires
+    is-savable-requires
     refuse-requires-4
     returns-4
     returns-5)

@@ -1,14 +1,18 @@
+use borrow.Author.Needs.{needs}
+use mathlib.Core.Path.{sym, _∙_}
 use borrow.Author.Tests.{ne-eqb}
 use Rattle.rules.specs.PortData.{dataAt}
-use borrow.Author.Needs.{needs}
 use Rattle.levels.proofs.data_at.Statement.{statement}
 use Rattle.levels.proofs.data_at.Tie as tie
 
-port-at-requires : tie.Need-port-at-requires
-port-at-requires c κs = search needs
+effective-at-requires : tie.Need-effective-at-requires
+effective-at-requires c κs = search needs
 
 port-enabled-requires : tie.Need-port-enabled-requires
 port-enabled-requires c κs = search needs
+
+port-at-requires : tie.Need-port-at-requires
+port-at-requires c κs = search needs
 
 pins-at-requires : tie.Need-pins-at-requires
 pins-at-requires c κs = search needs
@@ -22,28 +26,56 @@ seen-requires c κs = search needs
 returns : tie.Need-returns
 unfolding dataAt
 returns c =
-    let b2 = c .before .before in
-    let b3 = b2 .before in
-    let b4 = b3 .before in
-    simp
-    (c .seen .ensures, c .before .level .ensures, b2 .pins-at .ensures, b3 .port-enabled .ensures, b4 .port-at .ensures, b4 .before .if1 .taken)
+    let at-pins = c .before .before in
+    let at-port = at-pins .before in
+    let at-enabled = at-port .before in
+    let at-effective = at-enabled .before in
+    simp (
+      c .seen .ensures,
+      c .before .level .ensures,
+      at-pins .pins-at .ensures,
+      at-port .port-at .ensures,
+      at-enabled .port-enabled .ensures,
+      at-effective .effective-at .ensures,
+      at-effective .before .if1 .taken,
+    )
+
+handshakes-at-requires : tie.Need-handshakes-at-requires
+handshakes-at-requires c κs = search needs
+
+front-at-requires : tie.Need-front-at-requires
+front-at-requires c κs = search needs
+
+returns-2 : tie.Need-returns-2
+unfolding dataAt
+returns-2 c =
+    let at-if = c .before in
+    let at-asked = at-if .before in
+    simp (c .front-at .ensures, sym (at-asked .handshakes-at .ensures) ∙ at-if .if2 .taken, ne-eqb _ _ (at-asked .before .if1 .left))
 
 seen-at-requires : tie.Need-seen-at-requires
 seen-at-requires c κs = search needs
 
-returns-2 : tie.Need-returns-2
+returns-3 : tie.Need-returns-3
 unfolding dataAt
-returns-2 c = simp (c .seen-at .ensures, ne-eqb _ _ (c .before .if1 .left))
+returns-3 c =
+    let at-if = c .before in
+    let at-asked = at-if .before in
+    simp (c .seen-at .ensures, sym (at-asked .handshakes-at .ensures) ∙ at-if .if2 .left, ne-eqb _ _ (at-asked .before .if1 .left))
 
 pub data-at-spec : {M : Type 1} → statement M
 data-at-spec =
     tie.close
     (tie.spec
-    port-at-requires
+    effective-at-requires
     port-enabled-requires
+    port-at-requires
     pins-at-requires
     level-requires
     seen-requires
     returns
+    handshakes-at-requires
+    front-at-requires
+    returns-2
     seen-at-requires
-    returns-2)
+    returns-3)

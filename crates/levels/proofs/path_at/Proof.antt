@@ -1,10 +1,10 @@
-use Rattle.rules.specs.PortData.{pathAt}
 use borrow.Author.Needs.{needs}
+use Rattle.rules.specs.PortData.{pathAt}
 use Rattle.levels.proofs.path_at.Statement.{statement}
 use Rattle.levels.proofs.path_at.Tie as tie
 
-port-at-requires : tie.Need-port-at-requires
-port-at-requires c κs = search needs
+effective-at-requires : tie.Need-effective-at-requires
+effective-at-requires c κs = search needs
 
 pins-at-requires : tie.Need-pins-at-requires
 pins-at-requires c κs = search needs
@@ -19,8 +19,9 @@ returns : tie.Need-returns
 unfolding pathAt
 returns c =
     let at-pins = c .before .before in
-    simp (c .path .ensures, c .before .value-at .ensures, at-pins .pins-at .ensures, at-pins .before .port-at .ensures)
+    simp (c .path .ensures, c .before .value-at .ensures, at-pins .pins-at .ensures, at-pins .before .effective-at .ensures)
 
 pub path-at-spec : {M : Type 1} → statement M
 path-at-spec =
-    tie.close (tie.spec port-at-requires pins-at-requires value-at-requires path-requires returns)
+    tie.close
+    (tie.spec effective-at-requires pins-at-requires value-at-requires path-requires returns)

@@ -1,6 +1,6 @@
+use borrow.Author.Needs.{needs}
 use borrow.Author.Tests.{ne-eqb}
 use Rattle.rules.specs.PortData.{valueAt}
-use borrow.Author.Needs.{needs}
 use Rattle.levels.proofs.value_at.Statement.{statement}
 use Rattle.levels.proofs.value_at.Tie as tie
 
@@ -35,12 +35,15 @@ element-copy-out-c3 c = search needs
 stand-requires-3 : tie.Need-stand-requires-3
 stand-requires-3 c κs = search needs
 
+shown-requires : tie.Need-shown-requires
+shown-requires c κs = search needs
+
 returns-3 : tie.Need-returns-3
 unfolding valueAt
 returns-3 c =
-    let e = c .before .before in
+    let e = c .before .before .before in
     simp
-    (c .stand3 .ensures, ne-eqb _ _ (e .before .if1 .left), ne-eqb _ _ (e .if2 .left), e .before .before .port-at .ensures)
+    (c .shown .ensures, c .before .stand3 .ensures, ne-eqb _ _ (e .before .if1 .left), ne-eqb _ _ (e .if2 .left), e .before .before .port-at .ensures)
 
 pub value-at-spec : {M : Type 1} → statement M
 value-at-spec =
@@ -55,4 +58,5 @@ value-at-spec =
     returns-2
     element-copy-out-c3
     stand-requires-3
+    shown-requires
     returns-3)

@@ -12,6 +12,9 @@ same-ports-requires c κs = search needs
 same-patterns-requires : tie.Need-same-patterns-requires
 same-patterns-requires c κs = search needs
 
+same-transfers-requires : tie.Need-same-transfers-requires
+same-transfers-requires c κs = search needs
+
 same-counters-requires : tie.Need-same-counters-requires
 same-counters-requires c κs = search needs
 
@@ -26,8 +29,15 @@ returns c =
     let b10 = b9 .before in
     let b11 = b10 .before in
     let b12 = b11 .before in
-    simp
-    (b12 .same-vectors .ensures, b11 .same-ports .ensures, b10 .same-patterns .ensures, b9 .same-counters .ensures, b8 .same-sources .ensures)
+    let b13 = b12 .before in
+    simp (
+      b13 .same-vectors .ensures,
+      b12 .same-ports .ensures,
+      b11 .same-patterns .ensures,
+      b10 .same-transfers .ensures,
+      b9 .same-counters .ensures,
+      b8 .same-sources .ensures,
+    )
 
 pub same-spec : {M : Type 1} → statement M
 same-spec =
@@ -36,6 +46,7 @@ same-spec =
     same-vectors-requires
     same-ports-requires
     same-patterns-requires
+    same-transfers-requires
     same-counters-requires
     same-sources-requires
     returns)

@@ -12,6 +12,9 @@ element-copy-out-q c = search needs
 port-enabled-requires : tie.Need-port-enabled-requires
 port-enabled-requires c κs = search needs
 
+effective-at-requires : tie.Need-effective-at-requires
+effective-at-requires c κs = search needs
+
 path-at-requires : tie.Need-path-at-requires
 path-at-requires c κs = search needs
 
@@ -20,7 +23,9 @@ caught-requires c κs = search needs
 
 returns : tie.Need-returns
 unfolding caughtAt
-returns c = simp (c .caught .ensures, c .before .path-at .ensures, c .before .before .port-enabled .ensures)
+returns c =
+    let at-effective = c .before .before in
+    simp (c .caught .ensures, c .before .path-at .ensures, at-effective .effective-at .ensures, at-effective .before .port-enabled .ensures)
 
 pub caught-at-spec : {M : Type 1} → statement M
 caught-at-spec =
@@ -29,6 +34,7 @@ caught-at-spec =
     mul-q
     element-copy-out-q
     port-enabled-requires
+    effective-at-requires
     path-at-requires
     caught-requires
     returns)

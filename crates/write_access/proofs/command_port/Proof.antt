@@ -28,10 +28,22 @@ mul-s c = search needs
 element-set-from-s : tie.Need-element-set-from-s
 element-set-from-s c = search needs
 
+mul-e-2 : tie.Need-mul-e-2
+mul-e-2 c = search needs
+
+element-copy-out-e : tie.Need-element-copy-out-e
+element-copy-out-e c = search needs
+
+mul-e-3 : tie.Need-mul-e-3
+mul-e-3 c = search needs
+
+way-write-given-e-2 : tie.Need-way-write-given-e-2
+way-write-given-e-2 c = search needs
+
 returns : tie.Need-returns
 unfolding portCommanded
 returns c =
-    let at-command = c .before in
+    let at-command = c .before .before in
     let at-place = at-command .before .before in
     simp (at-command .command .ensures, div-one, at-place .of-port .ensures, mod-eq-of-lt (at-place .before .pre))
 
@@ -47,4 +59,8 @@ command-port-spec =
     way-write-given-e
     mul-s
     element-set-from-s
+    mul-e-2
+    element-copy-out-e
+    mul-e-3
+    way-write-given-e-2
     returns)

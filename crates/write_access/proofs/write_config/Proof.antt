@@ -30,16 +30,44 @@ element-copy-out-enable-3 c = search needs
 enable-requires-3 : tie.Need-enable-requires-3
 enable-requires-3 c κs = search needs
 
+port-on-requires : tie.Need-port-on-requires
+port-on-requires c κs = search needs
+
+element-copy-out-keep : tie.Need-element-copy-out-keep
+element-copy-out-keep c = search needs
+
+keep-requires : tie.Need-keep-requires
+keep-requires c κs = search needs
+
+port-on-requires-2 : tie.Need-port-on-requires-2
+port-on-requires-2 c κs = search needs
+
+element-copy-out-keep-2 : tie.Need-element-copy-out-keep-2
+element-copy-out-keep-2 c = search needs
+
+keep-requires-2 : tie.Need-keep-requires-2
+keep-requires-2 c κs = search needs
+
 returns : tie.Need-returns
 unfolding configWritten
 returns c =
-    let b3 = c .before .before .before in
-    let b4 = b3 .before in
-    let b6 = b4 .before .before in
-    let b7 = b6 .before in
-    let b9 = b7 .before .before in
-    simp
-    (b7 .enable .ensures, b9 .counter-on .ensures, b4 .enable2 .ensures, b6 .counter-on2 .ensures, c .before .enable3 .ensures, b3 .counter-on3 .ensures)
+    let kept-b = c .before in
+    let kept-a = kept-b .before .before .before in
+    let ct3 = kept-a .before .before .before .before in
+    let ct2 = ct3 .before .before .before in
+    let ct1 = ct2 .before .before .before in
+    simp (
+      kept-b .keep2 .ensures,
+      kept-b .before .before .port-on2 .ensures,
+      kept-a .keep .ensures,
+      kept-a .before .before .port-on .ensures,
+      ct3 .enable3 .ensures,
+      ct3 .before .before .counter-on3 .ensures,
+      ct2 .enable2 .ensures,
+      ct2 .before .before .counter-on2 .ensures,
+      ct1 .enable .ensures,
+      ct1 .before .before .counter-on .ensures,
+    )
 
 pub write-config-spec : {M : Type 1} → statement M
 write-config-spec =
@@ -54,4 +82,10 @@ write-config-spec =
     counter-on-requires-3
     element-copy-out-enable-3
     enable-requires-3
+    port-on-requires
+    element-copy-out-keep
+    keep-requires
+    port-on-requires-2
+    element-copy-out-keep-2
+    keep-requires-2
     returns)

@@ -8,6 +8,9 @@ mul-put c = search needs
 element-copy-out-put : tie.Need-element-copy-out-put
 element-copy-out-put c = search needs
 
+direction-at-requires : tie.Need-direction-at-requires
+direction-at-requires c κs = search needs
+
 put-requires : tie.Need-put-requires
 put-requires c κs = search needs
 
@@ -18,8 +21,16 @@ element-set-from-q : tie.Need-element-set-from-q
 element-set-from-q c = search needs
 
 returns : tie.Need-returns
-returns c = simp (c .put .ensures)
+returns c = simp (c .put .ensures, c .before .direction-at .ensures)
 
 pub write-data-spec : {M : Type 1} → statement M
 write-data-spec =
-    tie.close (tie.spec mul-put element-copy-out-put put-requires mul-q element-set-from-q returns)
+    tie.close
+    (tie.spec
+    mul-put
+    element-copy-out-put
+    direction-at-requires
+    put-requires
+    mul-q
+    element-set-from-q
+    returns)

@@ -17,6 +17,9 @@ returns c = simp (sym (c .before .before .is-held .ensures) ∙ c .before .if1 .
 write-requires : tie.Need-write-requires
 write-requires c κs = search needs
 
+moves-requires : tie.Need-moves-requires
+moves-requires c κs = search needs
+
 step-requires : tie.Need-step-requires
 step-requires c κs = search needs
 
@@ -26,9 +29,16 @@ effect-requires-2 c κs = search needs
 returns-2 : tie.Need-returns-2
 unfolding writeEffect
 returns-2 c =
-    let at-write = c .before .before in
+    let at-moves = c .before .before in
+    let at-write = at-moves .before in
     let at-if = at-write .before in
-    simp (sym (at-if .before .is-held .ensures) ∙ at-if .if1 .left, at-write .write .ensures, c .before .step .ensures, c .effect2 .ensures)
+    simp (
+      sym (at-if .before .is-held .ensures) ∙ at-if .if1 .left,
+      at-write .write .ensures,
+      at-moves .moves .ensures,
+      c .before .step .ensures,
+      c .effect2 .ensures,
+    )
 
 pub write-effect-spec : {M : Type 1} → statement M
 write-effect-spec =
@@ -38,6 +48,7 @@ write-effect-spec =
     effect-requires
     returns
     write-requires
+    moves-requires
     step-requires
     effect-requires-2
     returns-2)

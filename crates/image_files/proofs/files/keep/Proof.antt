@@ -3,14 +3,13 @@ use mathlib.Core.Bool.{false}
 use mathlib.Core.Path.{_≡_, sym, _∙_}
 use native.Mathlib.Omega.{arith}
 use borrow.Author.Needs.{needs}
-use Rattle.rules.specs.Sound.{soundOf}
 use Rattle.rules.specs.declared.Device.{Device}
-use Rattle.image.specs.Image.{saveCode}
+use Rattle.image.specs.Image.{savable, saveCode}
 use Rattle.image_files.proofs.files.keep.Statement.{statement}
 use Rattle.image_files.proofs.files.keep.Tie as tie
 
--- an unsound record is not saved
-no-save : (d : Device) (n : ℕ) → soundOf d ≡ false → saveCode d n ≡ 0 → ⊥
+-- a record that may not be saved is not
+no-save : (d : Device) (n : ℕ) → savable d ≡ false → saveCode d n ≡ 0 → ⊥
 unfolding saveCode
 no-save d n u e = ne-nine (simp-code ∙ e)
   where

@@ -15,23 +15,19 @@ vector-at-requires c κs = search needs
 source-at-requires : tie.Need-source-at-requires
 source-at-requires c κs = search needs
 
-pattern-at-requires : tie.Need-pattern-at-requires
-pattern-at-requires c κs =
+port-status-requires : tie.Need-port-status-requires
+port-status-requires c κs =
     let at-start = c .before .before .before .before in
     let odd = eqb-true (at-start .args .k % 2) 1 (c .if1 .taken) in
     omega arith
 
-port-vector-requires : tie.Need-port-vector-requires
-port-vector-requires c κs = search needs
-
 returns : tie.Need-returns
 unfolding withStatus
 returns c =
-    let at-if = c .before .before in
+    let at-if = c .before in
     let at-vector = at-if .before .before in
     simp (
-      c .port-vector .ensures,
-      c .before .pattern-at .ensures,
+      c .port-status .ensures,
       at-if .if1 .taken,
       at-if .before .source-at .ensures,
       at-vector .vector-at .ensures,
@@ -61,8 +57,7 @@ with-status-spec =
     vector-of-requires
     vector-at-requires
     source-at-requires
-    pattern-at-requires
-    port-vector-requires
+    port-status-requires
     returns
     counter-vector-requires
     returns-2)

@@ -18,6 +18,9 @@ sound-ports-requires c κs = search needs
 sound-patterns-requires : tie.Need-sound-patterns-requires
 sound-patterns-requires c κs = search needs
 
+sound-transfers-requires : tie.Need-sound-transfers-requires
+sound-transfers-requires c κs = search needs
+
 reset-only-requires : tie.Need-reset-only-requires
 reset-only-requires c κs = search needs
 
@@ -28,8 +31,16 @@ returns c =
     let b3 = b2 .before in
     let b4 = b3 .before in
     let b5 = b4 .before in
-    simp
-    (b5 .no-later .ensures, b4 .sound-sources .ensures, b3 .sound-counters .ensures, b2 .sound-ports .ensures, c .before .sound-patterns .ensures, c .reset-only .ensures)
+    let b6 = b5 .before in
+    simp (
+      b6 .no-later .ensures,
+      b5 .sound-sources .ensures,
+      b4 .sound-counters .ensures,
+      b3 .sound-ports .ensures,
+      b2 .sound-patterns .ensures,
+      c .before .sound-transfers .ensures,
+      c .reset-only .ensures,
+    )
 
 pub sound-spec : {M : Type 1} → statement M
 sound-spec =
@@ -40,5 +51,6 @@ sound-spec =
     sound-counters-requires
     sound-ports-requires
     sound-patterns-requires
+    sound-transfers-requires
     reset-only-requires
     returns)

@@ -9,7 +9,7 @@ opened-requires c κs = search needs
 
 returns : tie.Need-returns
 unfolding writtenData
-returns c = simp (c .before .before .before .opened .ensures) (put-bits _ _ _ (search needs) (search needs) (search needs) (search needs))
+returns c = simp (c .before .before .opened .ensures) (put-bits _ _ _ _ (search needs) (search needs) (search needs) (search needs))
 
 pub put-spec : {M : Type 1} → statement M
 put-spec = tie.close (tie.spec opened-requires returns)
