@@ -1,67 +1,45 @@
-// What kind each of the 48 registers is, and what a write of it refuses.
+// What kind each of the 48 registers is, by ranges of the address.
 ghost use mathlib.Core.Path.{_≡_};
-ghost use Rattle.rules.specs.Registers.{kindOf};
-use rules::Device;
+ghost use Rattle.rules.specs.Registers.{portKind, kindOf};
 use rules::Kind;
 
-const KINDS: [Kind; Device::REGISTERS] = [
-    Kind::Master,
-    Kind::Config,
-    Kind::Vector(0),
-    Kind::Vector(1),
-    Kind::Vector(2),
-    Kind::Polarity(2),
-    Kind::Direction(2),
-    Kind::Special(2),
-    Kind::PortCommand(0),
-    Kind::PortCommand(1),
-    Kind::CounterCommand(0),
-    Kind::CounterCommand(1),
-    Kind::CounterCommand(2),
-    Kind::Data(0),
-    Kind::Data(1),
-    Kind::Data(2),
-    Kind::Current(0, true),
-    Kind::Current(0, false),
-    Kind::Current(1, true),
-    Kind::Current(1, false),
-    Kind::Current(2, true),
-    Kind::Current(2, false),
-    Kind::Constant(0, true),
-    Kind::Constant(0, false),
-    Kind::Constant(1, true),
-    Kind::Constant(1, false),
-    Kind::Constant(2, true),
-    Kind::Constant(2, false),
-    Kind::CounterMode(0),
-    Kind::CounterMode(1),
-    Kind::CounterMode(2),
-    Kind::CurrentVector,
-    Kind::PortMode(0),
-    Kind::Handshake(0),
-    Kind::Polarity(0),
-    Kind::Direction(0),
-    Kind::Special(0),
-    Kind::PatternPolarity(0),
-    Kind::Transition(0),
-    Kind::Mask(0),
-    Kind::PortMode(1),
-    Kind::Handshake(1),
-    Kind::Polarity(1),
-    Kind::Direction(1),
-    Kind::Special(1),
-    Kind::PatternPolarity(1),
-    Kind::Transition(1),
-    Kind::Mask(1),
-];
+// The kind of the register at r among the eight of Port A or B.
+fn port_kind(p: usize, r: usize) -> Kind
+    ensures { λ k. ⌜ k ≡ portKind p r ⌝ }
+{
+    match r {
+        0 => Kind::PortMode(p),
+        1 => Kind::Handshake(p),
+        2 => Kind::Polarity(p),
+        3 => Kind::Direction(p),
+        4 => Kind::Special(p),
+        5 => Kind::PatternPolarity(p),
+        6 => Kind::Transition(p),
+        _ => Kind::Mask(p),
+    }
+}
 
 // The kind of the register at an address.
 pub fn kind_of(address: u32) -> Kind
     ensures { λ r. ⌜ r ≡ kindOf address ⌝ }
 {
     let a = address as usize;
-    if a < Device::REGISTERS {
-        return KINDS[a];
+    match a {
+        0x00 => Kind::Master,
+        0x01 => Kind::Config,
+        0x02..=0x04 => Kind::Vector(a - 0x02),
+        0x05 => Kind::Polarity(2),
+        0x06 => Kind::Direction(2),
+        0x07 => Kind::Special(2),
+        0x08..=0x09 => Kind::PortCommand(a - 0x08),
+        0x0A..=0x0C => Kind::CounterCommand(a - 0x0A),
+        0x0D..=0x0F => Kind::Data(a - 0x0D),
+        0x10..=0x15 => Kind::Current((a - 0x10) / 2, a % 2 == 0),
+        0x16..=0x1B => Kind::Constant((a - 0x16) / 2, a % 2 == 0),
+        0x1C..=0x1E => Kind::CounterMode(a - 0x1C),
+        0x1F => Kind::CurrentVector,
+        0x20..=0x27 => port_kind(0, a - 0x20),
+        0x28..=0x2F => port_kind(1, a - 0x28),
+        _ => Kind::Absent,
     }
-    Kind::Absent
 }
