@@ -1,7 +1,7 @@
 -- The bytes that are made of single bits: what their bits are, and that a byte whose unused bits are 0 is made of its bits.
 -- Assumes nothing.
 use Prim.Native.Nat.{ℕ, _+_, _<_}
-use mathlib.Core.Path.{_≡_, refl, sym, subst}
+use mathlib.Core.Path.{_≡_, refl, subst}
 use mathlib.Core.Bool.{Bool, true, false, not, _&&_, _||_, Bool·beq, cond}
 use native.Mathlib.Nat.{div-add-mod'}
 use lib.Arith.{digits-div, digits-mod}
@@ -9,15 +9,10 @@ use lib.Dec.{T, eqb, ltb, eqb→eq}
 use Rattle.basics.specs.Byte.{bit, byteIn}
 use Rattle.bodies.specs.Taken.{wordOf, portClear, counterClear}
 use Rattle.basics.proofs.Tests.{both, triple}
-use Rattle.basics.proofs.Truth.{rows, all2, all6, all7, same}
+use Rattle.basics.proofs.Truth.{rows, all2, all3, all7, same}
 use Rattle.basics.proofs.Laws.{all, below}
 
 -- clauses that hold together hold one by one
-pub fourfold : (a b c d : Bool) → (a && b && c && d) ≡ true → (a ≡ true) × (b ≡ true) × (c ≡ true) × (d ≡ true)
-fourfold a b c d h =
-    let r = both (a && b && c) d h in
-    let q = triple a b c (r .0) in (q .0, q .1, q .2, r .1)
-
 pub sextet : (a b c d e f : Bool) → (a && b && c && d && e && f) ≡ true → (a ≡ true) × (b ≡ true) × (c ≡ true) × (d ≡ true) × (e ≡ true) × (f ≡ true)
 sextet a b c d e f h =
     let u = both (a && b && c && d && e) f h in
@@ -33,9 +28,13 @@ portByte u e p r f m i = cond u 128 0 + cond e 64 0 + cond p 32 0 + cond r 16 0 
 abbrev pub counterByte : Bool → Bool → Bool → Bool → Bool → Bool → Bool → ℕ
 counterByte u e p r f g c = cond u 128 0 + cond e 64 0 + cond p 32 0 + cond r 16 0 + (cond f 8 0 + cond g 4 0 + cond c 1 0)
 
--- of flags and of hidden errors D0 and D1
+-- of hidden errors, and of a transfer's flags, D0 and D1
 abbrev pub flagByte : Bool → Bool → ℕ
 flagByte a b = cond a 1 0 + cond b 2 0
+
+-- of a counter's flags D2 too
+abbrev pub pulseByte : Bool → Bool → Bool → ℕ
+pulseByte a b c = cond a 1 0 + cond b 2 0 + cond c 4 0
 
 module _ (u e p r f m i : Bool) where
   at-port : (k : ℕ) (x : Bool → Bool → Bool → Bool → Bool → Bool → Bool → Bool)
@@ -55,14 +54,17 @@ module _ (u e p r f m i : Bool) where
   pub port-err : bit (portByte u e p r f m i) 4 ≡ r
   port-err = at-port 4 (λ u e p r f m i. r) tt
 
+  pub port-irf : bit (portByte u e p r f m i) 2 ≡ f
+  port-irf = at-port 2 (λ u e p r f m i. f) tt
+
   pub port-pmf : bit (portByte u e p r f m i) 1 ≡ m
   port-pmf = at-port 1 (λ u e p r f m i. m) tt
 
   pub port-ioe : bit (portByte u e p r f m i) 0 ≡ i
   port-ioe = at-port 0 (λ u e p r f m i. i) tt
 
-pub port-clear : (u e p r m i : Bool) → portClear (portByte u e p r false m i) ≡ true
-port-clear u e p r m i = same _ _ (all6 (λ u e p r m i. Bool·beq (portClear (portByte u e p r false m i)) true) tt u e p r m i)
+  pub port-clear : portClear (portByte u e p r f m i) ≡ true
+  port-clear = same _ _ (all7 (λ u e p r f m i. Bool·beq (portClear (portByte u e p r f m i)) true) tt u e p r f m i)
 
 module _ (u e p r f g c : Bool) where
   at-counter : (k : ℕ) (x : Bool → Bool → Bool → Bool → Bool → Bool → Bool → Bool)
@@ -103,6 +105,18 @@ flag-1 a b = same _ _ (all2 (λ a b. Bool·beq (bit (flagByte a b) 1) b) tt a b)
 pub flag-clear : (a b : Bool) → ltb (flagByte a b) 4 ≡ true
 flag-clear a b = same _ _ (all2 (λ a b. Bool·beq (ltb (flagByte a b) 4) true) tt a b)
 
+pub pulse-0 : (a b c : Bool) → bit (pulseByte a b c) 0 ≡ a
+pulse-0 a b c = same _ _ (all3 (λ a b c. Bool·beq (bit (pulseByte a b c) 0) a) tt a b c)
+
+pub pulse-1 : (a b c : Bool) → bit (pulseByte a b c) 1 ≡ b
+pulse-1 a b c = same _ _ (all3 (λ a b c. Bool·beq (bit (pulseByte a b c) 1) b) tt a b c)
+
+pub pulse-2 : (a b c : Bool) → bit (pulseByte a b c) 2 ≡ c
+pulse-2 a b c = same _ _ (all3 (λ a b c. Bool·beq (bit (pulseByte a b c) 2) c) tt a b c)
+
+pub pulse-clear : (a b c : Bool) → ltb (pulseByte a b c) 8 ≡ true
+pulse-clear a b c = same _ _ (all3 (λ a b c. Bool·beq (ltb (pulseByte a b c) 8) true) tt a b c)
+
 pub line-0 : (a : Bool) → bit (cond a 1 0) 0 ≡ a
 line-0 true = refl
 line-0 false = refl
@@ -116,14 +130,17 @@ module _ (clear : ℕ → Bool) (made : ℕ → ℕ) where
   pub made-of : T (all (λ x. not (clear x) || eqb (made x) x) 256) → (x : ℕ) → x < 256 → clear x ≡ true → made x ≡ x
   made-of t x h c = eqb→eq _ _ (subst (λ (b : Bool). T (not b || eqb (made x) x)) c (below (λ x. not (clear x) || eqb (made x) x) 256 t x h))
 
-pub port-made : (x : ℕ) → x < 256 → portClear x ≡ true → portByte (bit x 7) (bit x 6) (bit x 5) (bit x 4) false (bit x 1) (bit x 0) ≡ x
-port-made = made-of portClear (λ x. portByte (bit x 7) (bit x 6) (bit x 5) (bit x 4) false (bit x 1) (bit x 0)) tt
+pub port-made : (x : ℕ) → x < 256 → portClear x ≡ true → portByte (bit x 7) (bit x 6) (bit x 5) (bit x 4) (bit x 2) (bit x 1) (bit x 0) ≡ x
+port-made = made-of portClear (λ x. portByte (bit x 7) (bit x 6) (bit x 5) (bit x 4) (bit x 2) (bit x 1) (bit x 0)) tt
 
 pub counter-made : (x : ℕ) → x < 256 → counterClear x ≡ true → counterByte (bit x 7) (bit x 6) (bit x 5) (bit x 4) (bit x 3) (bit x 2) (bit x 0) ≡ x
 counter-made = made-of counterClear (λ x. counterByte (bit x 7) (bit x 6) (bit x 5) (bit x 4) (bit x 3) (bit x 2) (bit x 0)) tt
 
 pub flag-made : (x : ℕ) → x < 256 → ltb x 4 ≡ true → flagByte (bit x 0) (bit x 1) ≡ x
 flag-made = made-of (λ x. ltb x 4) (λ x. flagByte (bit x 0) (bit x 1)) tt
+
+pub pulse-made : (x : ℕ) → x < 256 → ltb x 8 ≡ true → pulseByte (bit x 0) (bit x 1) (bit x 2) ≡ x
+pulse-made = made-of (λ x. ltb x 8) (λ x. pulseByte (bit x 0) (bit x 1) (bit x 2)) tt
 
 pub line-made : (x : ℕ) → x < 256 → ltb x 2 ≡ true → cond (bit x 0) 1 0 ≡ x
 line-made = made-of (λ x. ltb x 2) (λ x. cond (bit x 0) 1 0) tt

@@ -9,7 +9,7 @@ use lib.ListN.{length}
 use Rattle.rules.specs.declared.Source.{Source}
 use Rattle.rules.specs.declared.Counter.{Counter}
 use Rattle.rules.specs.declared.Device.{Device}
-use Rattle.rules.specs.With.{withHidden, withCount, withHalf, withCounters, withSources}
+use Rattle.rules.specs.With.{withHidden, withCount, withHalf, withPulse, withCounters, withSources}
 use Rattle.rules.specs.Record.{counterAt, sourceAt}
 use Rattle.rules.specs.Registers.{kindOf, kindIn, portKind, statusOf}
 use Rattle.rules.specs.Access.{portCommand, counterCommand, readOf}
@@ -17,11 +17,11 @@ use Rattle.bodies.specs.Written.{savedByte, registersFrom, registersBody
 use Rattle.bodies.specs.Taken.{byteAt, Bytes, counterWith, countsIn, countsClear}
 use Rattle.basics.proofs.Tests.{triple}
 use Rattle.bodies.proofs.Lists.{elements}
-use Rattle.bodies.proofs.Bytes.{flag-0, flag-1, flag-clear, flag-made, word-read, high-made, low-made}
+use Rattle.bodies.proofs.Bytes.{pulse-0, pulse-1, pulse-2, pulse-clear, pulse-made, word-read, high-made, low-made}
 
--- a counter with the count and the half of another, and a source with the hidden error of another
+-- a counter with the count, the half and the pulse of another, and a source with the hidden error of another
 abbrev countLike : Counter → Counter → Counter
-countLike c other = withHalf (withCount c (other .count)) (other .half)
+countLike c other = withPulse (withHalf (withCount c (other .count)) (other .half)) (other .pulse)
 
 abbrev hiddenLike : Source → Source → Source
 hiddenLike s other = withHidden s (other .hidden)
@@ -37,26 +37,26 @@ countsTold e d =
 
 pub counts-read : (e d : Device) → countsIn e (countsBody d) ≡ countsTold e d
 unfolding countsIn countsBody flagsOf counterWith
-counts-read e d = simp (word-read, flag-0, flag-1)
+counts-read e d = simp (word-read, pulse-0, pulse-1, pulse-2)
 
 pub counts-clear : (d : Device) → countsClear (countsBody d) ≡ true
 unfolding countsBody flagsOf
-counts-clear d = simp flag-clear
+counts-clear d = simp pulse-clear
 
 pub counts-written : (d : Device) (b : List ℕ) → length b ≡ 9 → Bytes b → countsClear b ≡ true → countsBody (countsIn d b) ≡ b
 unfolding countsIn countsBody flagsOf counterWith
 counts-written d b n h c =
-    let k = triple (ltb (byteAt b 2) 4) (ltb (byteAt b 5) 4) (ltb (byteAt b 8) 4) c in
+    let k = triple (ltb (byteAt b 2) 8) (ltb (byteAt b 5) 8) (ltb (byteAt b 8) 8) c in
     (simp (
       high-made (byteAt b 0) (byteAt b 1) (h 1),
       low-made (byteAt b 0) (byteAt b 1) (h 1),
-      flag-made (byteAt b 2) (h 2) (k .0),
+      pulse-made (byteAt b 2) (h 2) (k .0),
       high-made (byteAt b 3) (byteAt b 4) (h 4),
       low-made (byteAt b 3) (byteAt b 4) (h 4),
-      flag-made (byteAt b 5) (h 5) (k .1),
+      pulse-made (byteAt b 5) (h 5) (k .1),
       high-made (byteAt b 6) (byteAt b 7) (h 7),
       low-made (byteAt b 6) (byteAt b 7) (h 7),
-      flag-made (byteAt b 8) (h 8) (k .2),
+      pulse-made (byteAt b 8) (h 8) (k .2),
     ))
     ∙ elements b 9 n
 

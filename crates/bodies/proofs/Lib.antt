@@ -1,7 +1,9 @@
 pub mod LayoutLaw
+pub mod Entries
 pub mod Laid
 pub mod Lists
 pub mod Bytes
+pub mod TransfersLaw
 pub mod RegistersLaw
 pub mod CountsLaw
 pub mod PinsLaw

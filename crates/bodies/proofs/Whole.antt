@@ -1,13 +1,14 @@
--- The whole image from its bodies: where each stands, and what they tell together.
+-- The whole image from its bodies, in either layout: where each stands, and what they tell together.
 -- Assumes nothing.
-use Prim.Native.Nat.{ℕ, zero, suc, _+_, _≤_, _<_}
+use Prim.Native.Nat.{ℕ, _+_, _≤_}
 use mathlib.Core.Path.{_≡_, refl, sym, ap, ap₂, subst, _∙_}
 use mathlib.Core.Bool.{Bool, true, _&&_}
-use mathlib.Core.List.{List, [], _∷_, _++_, append-nil, append-assoc}
+use mathlib.Core.List.{List, [], _∷_, _++_}
+use mathlib.Core.Logic.{_⊎_, inl, inr}
 use native.Mathlib.Omega.{arith}
-use lib.Dec.{lit<}
-use lib.ListN.{length, take, drop, length-drop}
-use lib.Seq.{take-all, take-add, length-take-le, getD-drop}
+use lib.ListN.{length, getD, take, length-append}
+use lib.Seq.{take-all, take-at}
+use Rattle.basics.specs.Signs.{_==_}
 use Rattle.rules.specs.declared.Counter.{Counter}
 use Rattle.rules.specs.declared.Source.{Source}
 use Rattle.rules.specs.declared.Port.{Port}
@@ -15,121 +16,164 @@ use Rattle.rules.specs.declared.Pattern.{Pattern}
 use Rattle.rules.specs.declared.Transfer.{Transfer}
 use Rattle.rules.specs.declared.Device.{Device}
 use Rattle.rules.specs.With.{device, withTransfers, withCounters, withSources}
-use Rattle.rules.specs.Record.{Shaped, bare, blank, idle, quiet}
-use Rattle.bodies.specs.Layout.{Entry, sizesFrom, layoutOf, layoutIn, contentsLen, offsetOf, sizeOf, lengthOf, contentsOf, part, bodyIn}
-use Rattle.bodies.specs.Written.{Unheld, registersFrom, registersBody, countsBody, pinsBody, linesBody, imageOf}
-use Rattle.bodies.specs.Taken.{Bytes, registersIn, countsIn, pinsIn, linesIn, registersClear, countsClear, pinsClear, linesClear, recordIn, unusedClear, deviceIn, clearIn}
-use Rattle.bodies.proofs.Bytes.{fourfold}
-use Rattle.bodies.proofs.Lists.{ap₃}
+use Rattle.rules.specs.Record.{Shaped, bare, blank, vacant, idle, quiet}
+use Rattle.bodies.specs.Layout.{Layout, layout1, layout2, layoutOf, layoutIn, contentsLen, offsetOf, sizeOf, lengthOf, contentsOf, bodyIn}
+use Rattle.bodies.specs.Written.{registersFrom, registersBody, countsBody, pinsBody, linesBody, transfersBody, bodiesFrom, imageOf}
+use Rattle.bodies.specs.Taken.{Bytes, registersIn, countsIn, pinsIn, linesIn, transfersIn, recordIn, deviceIn}
+use Rattle.bodies.specs.Taken.{registersClear, countsClear, pinsClear, linesClear, transfersClear, unusedClear, irfAgrees, clearIn}
+use Rattle.basics.proofs.Tests.{by-test}
 use Rattle.basics.proofs.Lists.{two, three, five}
-use Rattle.bodies.proofs.RegistersLaw.{registersTold, registers-read, registers-written, registers-clear}
+use Rattle.bodies.proofs.Bytes.{sextet}
+use Rattle.bodies.proofs.Lists.{ap₃}
+use Rattle.bodies.proofs.Entries.{Sized, bodyAmong, bodies-length, found, bytes-part, part-length, partsFrom, together}
+use Rattle.bodies.proofs.RegistersLaw.{registersTold, registers-read, registers-written, registers-clear, irf-agrees}
 use Rattle.bodies.proofs.CountsLaw.{countsTold, counts-read, counts-written, counts-clear, counts-apart}
 use Rattle.bodies.proofs.PinsLaw.{pinsTold, pins-read, pins-written, pins-clear, pins-apart-1, pins-apart-2}
 use Rattle.bodies.proofs.LinesLaw.{linesTold, lines-read, lines-written, lines-clear, lines-apart-1, lines-apart-2, lines-apart-3}
+use Rattle.bodies.proofs.TransfersLaw.{Tells, transfers-tell, nothing-told, transfersTold, transfers-read, transfers-clear, transfers-written}
+
+-- ---- what holds in both layouts holds in that of any record, and of any image
+pub of-record : (P : Layout → Type 0) → P layout1 → P layout2 → (d : Device) → P (layoutOf d)
+unfolding layoutOf
+of-record P a b d = by-test P (d .version == 1) layout1 layout2 (λ h. a) (λ h. b)
+
+pub of-image : (P : Layout → Type 0) → P layout1 → P layout2 → (s : List ℕ) → P (layoutIn s)
+unfolding layoutIn
+of-image P a b s = by-test P (getD s 0 0 == 2) layout2 layout1 (λ h. b) (λ h. a)
 
 -- ---- an image has its layout's length, the contents first, and each body at its place
-pub image-length : (d : Device) → length (imageOf d) ≡ lengthOf (layoutOf d)
-unfolding imageOf registersBody registersFrom countsBody pinsBody linesBody
-image-length d = refl
+module _ (d : Device) where
+  abbrev layout : Layout
+  layout = layoutOf d
 
-pub image-contents : (d : Device) → take (contentsLen (layoutOf d)) (imageOf d) ≡ contentsOf (layoutOf d)
-unfolding imageOf
-image-contents d = refl
+  contents-long : length (contentsOf layout) ≡ contentsLen layout
+  contents-long = of-record (λ l. length (contentsOf l) ≡ contentsLen l) refl refl d
+
+  sized : Sized d (layout .entries)
+  unfolding registersBody registersFrom countsBody pinsBody linesBody transfersBody
+  sized = of-record (λ l. Sized d (l .entries)) (refl, (refl, (refl, (refl, tt)))) (refl, (refl, (refl, (refl, (refl, tt))))) d
+
+  pub image-length : length (imageOf d) ≡ lengthOf layout
+  unfolding imageOf
+  image-length =
+      length-append (contentsOf layout) (bodiesFrom d (layout .entries)) ∙ ap₂ _+_ contents-long (bodies-length d (layout .entries) sized)
+
+  pub image-contents : take (contentsLen layout) (imageOf d) ≡ contentsOf layout
+  unfolding imageOf
+  image-contents = take-at (contentsOf layout) (bodiesFrom d (layout .entries)) (contentsLen layout) contents-long
+
+  -- the first byte tells the layout
+  pub image-layout : layoutIn (imageOf d) ≡ layout
+  unfolding imageOf layoutIn
+  image-layout = of-record (λ l. layoutIn (contentsOf l ++ bodiesFrom d (l .entries)) ≡ l) refl refl d
+
+  placed : (id : ℕ) → bodyIn layout id (imageOf d) ≡ bodyAmong d (layout .entries) id
+  unfolding imageOf
+  placed id = found d (contentsOf layout) (contentsLen layout) (layout .entries) id contents-long sized
+
+  pub body-1 : bodyIn layout 1 (imageOf d) ≡ registersBody d
+  body-1 = placed 1 ∙ of-record (λ l. bodyAmong d (l .entries) 1 ≡ registersBody d) refl refl d
+
+  pub body-2 : bodyIn layout 2 (imageOf d) ≡ countsBody d
+  body-2 = placed 2 ∙ of-record (λ l. bodyAmong d (l .entries) 2 ≡ countsBody d) refl refl d
+
+  pub body-3 : bodyIn layout 3 (imageOf d) ≡ pinsBody d
+  body-3 = placed 3 ∙ of-record (λ l. bodyAmong d (l .entries) 3 ≡ pinsBody d) refl refl d
+
+  pub body-4 : bodyIn layout 4 (imageOf d) ≡ linesBody d
+  body-4 = placed 4 ∙ of-record (λ l. bodyAmong d (l .entries) 4 ≡ linesBody d) refl refl d
 
 -- one behind the other, as they are laid
-pub image-laid : (d : Device) → contentsOf (layoutOf d) ++ registersBody d ++ countsBody d ++ pinsBody d ++ linesBody d ≡ imageOf d
+pub image-laid-1 : (d : Device) → layoutOf d ≡ layout1 → contentsOf layout1 ++ registersBody d ++ countsBody d ++ pinsBody d ++ linesBody d ≡ imageOf d
 unfolding imageOf registersBody registersFrom countsBody pinsBody linesBody
-image-laid d = refl
+image-laid-1 d e = simp e
 
-pub body-1 : (d : Device) → bodyIn (layoutOf d) 1 (imageOf d) ≡ registersBody d
-unfolding imageOf registersBody registersFrom countsBody pinsBody linesBody
-body-1 d = refl
+pub image-laid-2 : (d : Device) → layoutOf d ≡ layout2
+    → contentsOf layout2 ++ registersBody d ++ countsBody d ++ pinsBody d ++ linesBody d ++ transfersBody d ≡ imageOf d
+unfolding imageOf registersBody registersFrom countsBody pinsBody linesBody transfersBody
+image-laid-2 d e = simp e
 
-pub body-2 : (d : Device) → bodyIn (layoutOf d) 2 (imageOf d) ≡ countsBody d
-unfolding imageOf registersBody registersFrom countsBody pinsBody linesBody
-body-2 d = refl
+-- ---- the records that an image tells whole: of version 2, or of version 1 and without anything held by a handshake
+abbrev pub Versioned : Device → Type 0
+Versioned d = (d .version ≡ 2) ⊎ ((d .version ≡ 1) × (d .transfers ≡ vacant ∷ vacant ∷ []))
 
-pub body-3 : (d : Device) → bodyIn (layoutOf d) 3 (imageOf d) ≡ pinsBody d
-unfolding imageOf registersBody registersFrom countsBody pinsBody linesBody
-body-3 d = refl
+-- its version is the layout's, and the fifth body, empty in version 1, tells what the ports hold
+pub version-told : (d : Device) → Versioned d → layoutOf d .version ≡ d .version
+unfolding layoutOf
+version-told d (inl e) = simp e
+version-told d (inr e) = simp (e .0)
 
-pub body-4 : (d : Device) → bodyIn (layoutOf d) 4 (imageOf d) ≡ linesBody d
-unfolding imageOf registersBody registersFrom countsBody pinsBody linesBody
-body-4 d = refl
+abbrev Fifth : Device → List ℕ → Type 0
+Fifth d b = (transfersClear b ≡ true) × Tells b d
 
-pub image-clear : (d : Device) → Unheld d → clearIn (imageOf d) ≡ true
+fifth-among : (d : Device) → Versioned d → Fifth d (bodyAmong d (layoutOf d .entries) 5)
+unfolding layoutOf
+fifth-among d (inl e) = simp e (transfers-clear d, transfers-tell d)
+fifth-among d (inr e) = simp (e .0) (refl, nothing-told d (e .1))
+
+fifth : (d : Device) → Versioned d → Fifth d (bodyIn (layoutOf d) 5 (imageOf d))
+fifth d v = subst (Fifth d) (sym (placed d 5)) (fifth-among d v)
+
+-- ---- what was written is clear, and is read back
+pub image-clear : (d : Device) → Versioned d → clearIn (layoutOf d) (imageOf d) ≡ true
 unfolding clearIn unusedClear
-image-clear d e =
+image-clear d v =
+    let t = fifth d v in
     ap₂ _&&_
+    (ap₂ _&&_
+    (ap₂ _&&_
     (ap₃ (λ (a b c : Bool). a && b && c)
-    (ap registersClear (body-1 d) ∙ registers-clear d e) (ap countsClear (body-2 d) ∙ counts-clear d) (ap pinsClear (body-3 d) ∙ pins-clear d))
-    (ap linesClear (body-4 d) ∙ lines-clear d)
+    (ap registersClear (body-1 d) ∙ registers-clear d) (ap countsClear (body-2 d) ∙ counts-clear d) (ap pinsClear (body-3 d) ∙ pins-clear d))
+    (ap linesClear (body-4 d) ∙ lines-clear d))
+    (t .0))
+    (ap (λ (b : List ℕ). irfAgrees b (bodyIn (layoutOf d) 5 (imageOf d))) (body-1 d) ∙ irf-agrees d (bodyIn (layoutOf d) 5 (imageOf d)) (t .1))
 
--- ---- the four bodies tell the whole of a record that holds nothing of a handshake
-all-told : (d : Device) → Shaped d → Unheld d → linesTold (pinsTold (countsTold (registersTold d) d) d) d ≡ d
-all-told d f e =
-    let told = linesTold (pinsTold (countsTold (registersTold d) d) d) d in
+-- the bodies and the version tell the whole record
+all-told : (d : Device) → Shaped d → transfersTold (linesTold (pinsTold (countsTold (registersTold (d .version) d) d) d) d) d ≡ d
+all-told d f =
+    let told = transfersTold (linesTold (pinsTold (countsTold (registersTold (d .version) d) d) d) d) d in
     ap₃ (λ (vs : List ℕ) (ps : List Port) (qs : List Pattern).
-    device (d .master) (d .config) vs ps qs (told .transfers) (told .counters) (told .sources) (d .iei) (d .phase))
+    device (d .version) (d .master) (d .config) vs ps qs (told .transfers) (told .counters) (told .sources) (d .iei) (d .phase))
     (sym (three 0 (d .vectors) (f .vectors))) (sym (three (bare 0) (d .ports) (f .ports))) (sym (two blank (d .patterns) (f .patterns)))
     ∙ ap₃ (λ (ts : List Transfer) (cs : List Counter) (ss : List Source). withSources (withCounters (withTransfers d ts) cs) ss)
-    (sym e) (sym (three idle (d .counters) (f .counters))) (sym (five quiet (d .sources) (f .sources)))
+    (sym (two vacant (d .transfers) (f .transfers))) (sym (three idle (d .counters) (f .counters))) (sym (five quiet (d .sources) (f .sources)))
 
--- what was written is read back
-pub read-back : (d : Device) → Shaped d → Unheld d → deviceIn (imageOf d) ≡ d
+pub read-back : (d : Device) → Shaped d → Versioned d → deviceIn (layoutOf d) (imageOf d) ≡ d
 unfolding deviceIn recordIn
-read-back d f e =
-    (simp (body-1 d, body-2 d, body-3 d, body-4 d))
-    ∙ ap (λ (r : Device). linesIn (pinsIn (countsIn r (countsBody d)) (pinsBody d)) (linesBody d)) (registers-read d)
-    ∙ ap (λ (r : Device). linesIn (pinsIn r (pinsBody d)) (linesBody d)) (counts-read (registersTold d) d)
-    ∙ ap (λ (r : Device). linesIn r (linesBody d)) (pins-read (countsTold (registersTold d) d) d)
-    ∙ lines-read (pinsTold (countsTold (registersTold d) d) d) d
-    ∙ all-told d f e
+read-back d f v =
+    let b = bodyIn (layoutOf d) 5 (imageOf d) in
+    let n = d .version in
+    (simp (version-told d v, body-1 d, body-2 d, body-3 d, body-4 d))
+    ∙ ap (λ (r : Device). transfersIn (linesIn (pinsIn (countsIn r (countsBody d)) (pinsBody d)) (linesBody d)) b) (registers-read n d)
+    ∙ ap (λ (r : Device). transfersIn (linesIn (pinsIn r (pinsBody d)) (linesBody d)) b) (counts-read (registersTold n d) d)
+    ∙ ap (λ (r : Device). transfersIn (linesIn r (linesBody d)) b) (pins-read (countsTold (registersTold n d) d) d)
+    ∙ ap (λ (r : Device). transfersIn r b) (lines-read (pinsTold (countsTold (registersTold n d) d) d) d)
+    ∙ transfers-read b (linesTold (pinsTold (countsTold (registersTold n d) d) d) d) d (fifth d v .1)
+    ∙ all-told d f
 
 -- a record that was read has the lengths of the struct
-pub shaped : (s : List ℕ) → Shaped (deviceIn s)
-unfolding deviceIn recordIn linesIn pinsIn countsIn registersIn
-shaped s = record { vectors = refl; ports = refl; patterns = refl; transfers = refl; counters = refl; sources = refl }
+pub shaped : (l : Layout) (s : List ℕ) → Shaped (deviceIn l s)
+unfolding deviceIn recordIn transfersIn linesIn pinsIn countsIn registersIn
+shaped l s = record { vectors = refl; ports = refl; patterns = refl; transfers = refl; counters = refl; sources = refl }
 
--- ---- parts of a list of bytes
-bytes-take : (n : ℕ) (s : List ℕ) → Bytes s → Bytes (take n s)
-bytes-take zero s h k = lit< tt
-bytes-take (suc n) [] h k = lit< tt
-bytes-take (suc n) (x ∷ s) h zero = h 0
-bytes-take (suc n) (x ∷ s) h (suc k) = bytes-take n s (λ j. h (suc j)) k
-
-bytes-part : (o n : ℕ) (s : List ℕ) → Bytes s → Bytes (part o n s)
-bytes-part o n s h = bytes-take n (drop o s) (λ k. subst (λ (x : ℕ). x < 256) (sym (getD-drop o s k 0)) (h (o + k)))
-
-part-length : (o n : ℕ) (s : List ℕ) → o + n ≤ length s → length (part o n s) ≡ n
-part-length o n s h = length-take-le n (drop o s) (subst (λ (m : ℕ). n ≤ m) (sym (length-drop o s)) (omega arith))
-
--- ---- what stands before some entries and the parts of the entries are the image up to their end
-abbrev partsFrom : ℕ → List Entry → List ℕ → List ℕ
-partsFrom o [] s = []
-partsFrom o (e ∷ es) s = part o (e .size) s ++ partsFrom (o + e .size) es s
-
-together : (o : ℕ) (es : List Entry) (s : List ℕ) → take o s ++ partsFrom o es s ≡ take (o + sizesFrom es) s
-together o [] s =
-    let end : o ≡ o + 0 = omega arith in append-nil (take o s) ∙ ap (λ (n : ℕ). take n s) end
-together o (e ∷ es) s =
-    let rest = partsFrom (o + e .size) es s in
-    let end : o + e .size + sizesFrom es ≡ o + (e .size + sizesFrom es) = omega arith in
-    sym (append-assoc (take o s) (part o (e .size) s) rest) ∙ ap (λ (l : List ℕ). l ++ rest) (sym (take-add o (e .size) s))
-    ∙ together (o + e .size) es s ∙ ap (λ (n : ℕ). take n s) end
-
--- ---- what was read is written back
-module _ (s : List ℕ) (n : length s ≡ lengthOf (layoutIn s)) (h : Bytes s) (c : clearIn s ≡ true) where
+-- ---- what was read is written back: each body of its length
+module _ (l : Layout) (s : List ℕ) (h : Bytes s) (c : clearIn l s ≡ true) where
   abbrev body : ℕ → List ℕ
-  body id = bodyIn (layoutIn s) id s
+  body id = bodyIn l id s
 
   clear : (registersClear (body 1) ≡ true) × (countsClear (body 2) ≡ true) × (pinsClear (body 3) ≡ true) × (linesClear (body 4) ≡ true)
+      × (transfersClear (body 5) ≡ true) × (irfAgrees (body 1) (body 5) ≡ true)
   unfolding clearIn unusedClear
-  clear = fourfold (registersClear (body 1)) (countsClear (body 2)) (pinsClear (body 3)) (linesClear (body 4)) c
+  clear =
+      sextet (registersClear (body 1)) (countsClear (body 2)) (pinsClear (body 3)) (linesClear (body 4)) (transfersClear (body 5))
+      (irfAgrees (body 1) (body 5)) c
 
-  -- the record after bodies 1, 1 and 2, and 1 to 3
+  bytes : (id : ℕ) → Bytes (body id)
+  bytes id = bytes-part (offsetOf l id) (sizeOf l id) s h
+
+  -- the record after bodies 1 and 5, then 2, then 3: the others touch nothing of body 5
   abbrev told-1 : Device
-  told-1 = registersIn (body 1)
+  told-1 = transfersIn (registersIn (l .version) (body 1)) (body 5)
 
   abbrev told-2 : Device
   told-2 = countsIn told-1 (body 2)
@@ -137,37 +181,70 @@ module _ (s : List ℕ) (n : length s ≡ lengthOf (layoutIn s)) (h : Bytes s) (
   abbrev told-3 : Device
   told-3 = pinsIn told-2 (body 3)
 
-  -- a body that stands in the image is whole, and its bytes are bytes
-  whole : (id : ℕ) → offsetOf (layoutIn s) id + sizeOf (layoutIn s) id ≤ length s → length (body id) ≡ sizeOf (layoutIn s) id
-  whole id fit = part-length (offsetOf (layoutIn s) id) (sizeOf (layoutIn s) id) s fit
+  first : deviceIn l s ≡ linesIn told-3 (body 4)
+  unfolding deviceIn recordIn transfersIn linesIn pinsIn countsIn
+  first = refl
 
-  bytes : (id : ℕ) → Bytes (body id)
-  bytes id = bytes-part (offsetOf (layoutIn s) id) (sizeOf (layoutIn s) id) s h
+  kept-1 : length (body 1) ≡ 48 → registersBody (deviceIn l s) ≡ body 1
+  kept-1 n =
+      ap registersBody first ∙ lines-apart-1 told-3 (body 4) ∙ pins-apart-1 told-2 (body 3) ∙ counts-apart told-1 (body 2)
+      ∙ registers-written (l .version) (body 1) (body 5) (clear .0) (clear .5) n (bytes 1)
 
-  kept-1 : registersBody (deviceIn s) ≡ body 1
+  kept-2 : length (body 2) ≡ 9 → countsBody (deviceIn l s) ≡ body 2
+  kept-2 n =
+      ap countsBody first ∙ lines-apart-2 told-3 (body 4) ∙ pins-apart-2 told-2 (body 3) ∙ counts-written told-1 (body 2) n (bytes 2) (clear .1)
+
+  kept-3 : length (body 3) ≡ 7 → pinsBody (deviceIn l s) ≡ body 3
+  kept-3 n = ap pinsBody first ∙ lines-apart-3 told-3 (body 4) ∙ pins-written told-2 (body 3) n (bytes 3) (clear .2)
+
+  kept-4 : length (body 4) ≡ 2 → linesBody (deviceIn l s) ≡ body 4
+  kept-4 n = ap linesBody first ∙ lines-written told-3 (body 4) n (bytes 4) (clear .3)
+
+  kept-5 : length (body 5) ≡ 8 → transfersBody (deviceIn l s) ≡ body 5
   unfolding deviceIn recordIn
-  kept-1 =
-      lines-apart-1 told-3 (body 4) ∙ pins-apart-1 told-2 (body 3) ∙ counts-apart told-1 (body 2)
-      ∙ registers-written (body 1) (whole 1 (omega arith)) (bytes 1) (clear .0)
+  kept-5 n = transfers-written _ (body 5) n (bytes 5) (clear .4)
 
-  kept-2 : countsBody (deviceIn s) ≡ body 2
-  unfolding deviceIn recordIn
-  kept-2 =
-      lines-apart-2 told-3 (body 4) ∙ pins-apart-2 told-2 (body 3)
-      ∙ counts-written told-1 (body 2) (whole 2 (omega arith)) (bytes 2) (clear .1)
+  -- a body that stands in the image is whole
+  whole : (id : ℕ) → offsetOf l id + sizeOf l id ≤ length s → length (body id) ≡ sizeOf l id
+  whole id fit = part-length (offsetOf l id) (sizeOf l id) s fit
 
-  kept-3 : pinsBody (deviceIn s) ≡ body 3
-  unfolding deviceIn recordIn
-  kept-3 = lines-apart-3 told-3 (body 4) ∙ pins-written told-2 (body 3) (whole 3 (omega arith)) (bytes 3) (clear .2)
+-- ---- all of them, in each layout
+abbrev Kept : List ℕ → Layout → Type 0
+Kept s l = clearIn l s ≡ true → length s ≡ lengthOf l → bodiesFrom (deviceIn l s) (l .entries) ≡ partsFrom (contentsLen l) (l .entries) s
 
-  kept-4 : linesBody (deviceIn s) ≡ body 4
-  unfolding deviceIn recordIn
-  kept-4 = lines-written told-3 (body 4) (whole 4 (omega arith)) (bytes 4) (clear .3)
+kept-old : (s : List ℕ) → Bytes s → Kept s layout1
+kept-old s h c n =
+    let at = whole layout1 s h c in
+    simp (
+      kept-1 layout1 s h c (at 1 (omega arith)),
+      kept-2 layout1 s h c (at 2 (omega arith)),
+      kept-3 layout1 s h c (at 3 (omega arith)),
+      kept-4 layout1 s h c (at 4 (omega arith)),
+    )
 
-  pub written-back : take (contentsLen (layoutIn s)) s ≡ contentsOf (layoutIn s) → imageOf (deviceIn s) ≡ s
-  unfolding imageOf
-  written-back t =
-      (simp (kept-1, kept-2, kept-3, kept-4))
-      ∙ ap (λ (l : List ℕ). l ++ partsFrom (contentsLen (layoutIn s)) (layoutIn s .entries) s) (sym t)
-      ∙ together (contentsLen (layoutIn s)) (layoutIn s .entries) s
-      ∙ take-all (lengthOf (layoutIn s)) s (omega arith)
+kept-new : (s : List ℕ) → Bytes s → Kept s layout2
+kept-new s h c n =
+    let at = whole layout2 s h c in
+    simp (
+      kept-1 layout2 s h c (at 1 (omega arith)),
+      kept-2 layout2 s h c (at 2 (omega arith)),
+      kept-3 layout2 s h c (at 3 (omega arith)),
+      kept-4 layout2 s h c (at 4 (omega arith)),
+      kept-5 layout2 s h c (at 5 (omega arith)),
+    )
+
+-- the record that is read has the version of the image, so it is written in that layout
+layout-kept : (s : List ℕ) → layoutOf (deviceIn (layoutIn s) s) ≡ layoutIn s
+unfolding layoutOf deviceIn recordIn transfersIn linesIn pinsIn countsIn registersIn
+layout-kept s = of-image (λ l. layoutOf (deviceIn l s) ≡ l) refl refl s
+
+pub written-back : (s : List ℕ) → length s ≡ lengthOf (layoutIn s) → Bytes s → clearIn (layoutIn s) s ≡ true
+    → take (contentsLen (layoutIn s)) s ≡ contentsOf (layoutIn s) → imageOf (deviceIn (layoutIn s) s) ≡ s
+unfolding imageOf
+written-back s n h c t =
+    let l = layoutIn s in
+    let d = deviceIn l s in
+    ap (λ (k : Layout). contentsOf k ++ bodiesFrom d (k .entries)) (layout-kept s)
+    ∙ ap₂ _++_ (sym t) (of-image (Kept s) (kept-old s h) (kept-new s h) s c n)
+    ∙ together (contentsLen l) (l .entries) s
+    ∙ take-all (lengthOf l) s (omega arith)

@@ -3,7 +3,7 @@
 -- Assumes nothing.
 use Prim.Native.Nat.{ℕ, _+_, _*_, _/_, _%_}
 use mathlib.Core.List.{List, [], _∷_}
-use lib.ListN.{length, take, drop}
+use lib.ListN.{length, getD, take, drop}
 use Rattle.basics.specs.Signs.{if_then_else_, _==_}
 use Rattle.rules.specs.declared.Device.{Device}
 
@@ -24,20 +24,25 @@ entry i n = record { id = i; size = n }
 abbrev pub layout1 : Layout
 layout1 = record { version = 0x01; entries = entry 1 48 ∷ entry 2 9 ∷ entry 3 7 ∷ entry 4 2 ∷ [] }
 
--- the layout in which a device is saved, and the one in which an image is read: so far there is one. All that depends on the layout
--- is reached through these two.
-abbrev pub layoutOf : Device → Layout
-layoutOf d = layout1
+-- paper 02, W-205: "Image version 2, first bytes 02 and 05", with "a fifth body for the handshake ports": "Its bodies stand at 22, 70,
+-- 79, 86 and 88; the fifth has 8 bytes"
+abbrev pub layout2 : Layout
+layout2 = record { version = 0x02; entries = entry 1 48 ∷ entry 2 9 ∷ entry 3 7 ∷ entry 4 2 ∷ entry 5 8 ∷ [] }
 
-abbrev pub layoutIn : List ℕ → Layout
-layoutIn s = layout1
+-- the layout in which a device is saved, and the one in which an image is read: "an unknown first byte counts as version 1". All that
+-- depends on the layout is reached through these two.
+unfoldable pub layoutOf : Device → Layout
+layoutOf d = if d .version == 1 then layout1 else layout2
+
+unfoldable pub layoutIn : List ℕ → Layout
+layoutIn s = if getD s 0 0 == 2 then layout2 else layout1
 
 -- "Contents first": two bytes, and four for each entry
 abbrev pub contentsLen : Layout → ℕ
 contentsLen l = 2 + 4 * length (l .entries)
 
 -- where a body starts if the first of these entries starts at o: each stands behind the one before
-abbrev offsetFrom : ℕ → List Entry → ℕ → ℕ
+abbrev pub offsetFrom : ℕ → List Entry → ℕ → ℕ
 offsetFrom o [] id = o
 offsetFrom o (e ∷ es) id = if e .id == id then o else offsetFrom (o + e .size) es id
 
@@ -46,7 +51,7 @@ abbrev pub offsetOf : Layout → ℕ → ℕ
 offsetOf l id = offsetFrom (contentsLen l) (l .entries) id
 
 -- a body that a layout has not is empty
-abbrev sizeIn : List Entry → ℕ → ℕ
+abbrev pub sizeIn : List Entry → ℕ → ℕ
 sizeIn [] id = 0
 sizeIn (e ∷ es) id = if e .id == id then e .size else sizeIn es id
 

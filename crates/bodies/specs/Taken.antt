@@ -1,8 +1,8 @@
 -- Paper 01, "The image": what each body tells of a record, and that its unused bits are 0; and the record that an image tells.
--- Body 1 gives a record; bodies 2, 3 and 4 each put into it what they tell.
+-- Body 1 gives a record; bodies 2 to 5 each put into it what they tell.
 -- Assumes nothing.
 use Prim.Native.Nat.{ℕ, _+_, _*_, _<_}
-use mathlib.Core.Bool.{Bool, false, not, _&&_}
+use mathlib.Core.Bool.{Bool, false, not, _&&_, Bool·beq}
 use mathlib.Core.List.{List, [], _∷_}
 use lib.Dec.{ltb}
 use lib.ListN.{getD}
@@ -12,10 +12,12 @@ use Rattle.rules.specs.declared.Source.{Source}
 use Rattle.rules.specs.declared.Counter.{Counter}
 use Rattle.rules.specs.declared.Port.{Port}
 use Rattle.rules.specs.declared.Pattern.{Pattern}
+use Rattle.rules.specs.declared.Transfer.{Transfer}
+use Rattle.rules.specs.Handshakes.{irfOf}
 use Rattle.rules.specs.declared.Device.{Device}
 use Rattle.rules.specs.Record.{bare, vacant, quiet, counterAt}
-use Rattle.rules.specs.With.{withHidden, withCount, withHalf, withOutside, withCatcher, withPorts, withCounters, withSources, withIei, withPhase}
-use Rattle.bodies.specs.Layout.{layoutIn, bodyIn}
+use Rattle.rules.specs.With.{transfer, withHidden, withCount, withHalf, withPulse, withOutside, withCatcher, withPorts, withTransfers, withCounters, withSources, withIei, withPhase}
+use Rattle.bodies.specs.Layout.{Layout, bodyIn}
 
 -- the byte at a place; that they are bytes; and two bytes, high first
 abbrev pub byteAt : List ℕ → ℕ → ℕ
@@ -75,14 +77,17 @@ counterIn b i =
       gcb = bit (byteAt b (0x0A + i)) 2;
       cip = bit (byteAt b (0x0A + i)) 0;
       half = false;
+      pulse = false;
     }
 
 abbrev pub countersIn : List ℕ → List Counter
 countersIn b = counterIn b 0 ∷ counterIn b 1 ∷ counterIn b 2 ∷ []
 
-unfoldable pub registersIn : List ℕ → Device
-registersIn b =
+-- of an image of that version
+unfoldable pub registersIn : ℕ → List ℕ → Device
+registersIn version b =
     record {
+      version = version;
       master = byteAt b 0x00;
       config = byteAt b 0x01;
       vectors = byteAt b 0x02 ∷ byteAt b 0x03 ∷ byteAt b 0x04 ∷ [];
@@ -96,9 +101,10 @@ registersIn b =
     }
 
 -- ---- body 2
--- "per counter: count, high first, then flags (D0 second half, D1 hidden error)"
+-- "per counter: count, high first, then flags (D0 second half, D1 hidden error)", D2 the pulse
 unfoldable pub counterWith : Counter → List ℕ → ℕ → Counter
-counterWith c b i = withHalf (withCount c (wordOf (byteAt b (3 * i)) (byteAt b (1 + 3 * i)))) (bit (byteAt b (2 + 3 * i)) 0)
+counterWith c b i =
+    withPulse (withHalf (withCount c (wordOf (byteAt b (3 * i)) (byteAt b (1 + 3 * i)))) (bit (byteAt b (2 + 3 * i)) 0)) (bit (byteAt b (2 + 3 * i)) 2)
 
 abbrev pub countersWith : Device → List ℕ → List Counter
 countersWith d b = counterWith (counterAt d 0) b 0 ∷ counterWith (counterAt d 1) b 1 ∷ counterWith (counterAt d 2) b 2 ∷ []
@@ -135,10 +141,18 @@ pinsIn d b = withSources (withPorts d (portsWith (d .ports) b)) (hiddenWith (d .
 unfoldable pub linesIn : Device → List ℕ → Device
 linesIn d b = withPhase (withIei d (bit (byteAt b 0) 0)) (bit (byteAt b 1) 0)
 
+-- ---- body 5: "front byte, byte behind it, how many are held (0 to 2), then D0 for an unfinished transfer and D1 for a pair half done"
+unfoldable pub transferIn : List ℕ → ℕ → Transfer
+transferIn b p =
+    transfer (byteAt b (4 * p)) (byteAt b (1 + 4 * p)) (byteAt b (2 + 4 * p)) (bit (byteAt b (3 + 4 * p)) 0) (bit (byteAt b (3 + 4 * p)) 1)
+
+unfoldable pub transfersIn : Device → List ℕ → Device
+transfersIn d b = withTransfers d (transferIn b 0 ∷ transferIn b 1 ∷ [])
+
 -- ---- "unused bits 0": those that no field of the record holds. Port C's upper four bits are the record's own matter.
--- "Port: .. D3-D2 read 0". Paper 02, W-203: D2 is IRF, and only a port with handshake has it; "The image waits for W-205."
+-- "Port: .. D3-D2 read 0"; of D2, IRF, see below
 abbrev pub portClear : ℕ → Bool
-portClear x = not (bit x 3) && not (bit x 2)
+portClear x = not (bit x 3)
 
 -- "D1 trigger (reads 0)"
 abbrev pub counterClear : ℕ → Bool
@@ -151,9 +165,9 @@ registersClear b =
     && counterClear (byteAt b 0x0A) && counterClear (byteAt b 0x0B) && counterClear (byteAt b 0x0C)
     && byteAt b 0x1F == 0
 
--- of flags and of hidden errors D1 and D0 are used
+-- of flags D2 to D0 are used (in version 1 a pulse is not sound), of hidden errors D1 and D0
 abbrev pub countsClear : List ℕ → Bool
-countsClear b = ltb (byteAt b 2) 4 && ltb (byteAt b 5) 4 && ltb (byteAt b 8) 4
+countsClear b = ltb (byteAt b 2) 8 && ltb (byteAt b 5) 8 && ltb (byteAt b 8) 8
 
 abbrev pub pinsClear : List ℕ → Bool
 pinsClear b = ltb (byteAt b 6) 4
@@ -162,16 +176,29 @@ pinsClear b = ltb (byteAt b 6) 4
 abbrev pub linesClear : List ℕ → Bool
 linesClear b = ltb (byteAt b 0) 2 && ltb (byteAt b 1) 2
 
--- ---- the four together: the record that they tell, and whether all their unused bits are 0
-unfoldable pub recordIn : List ℕ → List ℕ → List ℕ → List ℕ → Device
-recordIn registers counts pins lines = linesIn (pinsIn (countsIn (registersIn registers) counts) pins) lines
+-- of a port's flags D1 and D0
+abbrev pub transfersClear : List ℕ → Bool
+transfersClear b = ltb (byteAt b 3) 4 && ltb (byteAt b 7) 4
 
-unfoldable pub unusedClear : List ℕ → List ℕ → List ℕ → List ℕ → Bool
-unusedClear registers counts pins lines = registersClear registers && countsClear counts && pinsClear pins && linesClear lines
+-- ---- the five together: the record that they tell, and whether all their unused bits are 0
+unfoldable pub recordIn : ℕ → List ℕ → List ℕ → List ℕ → List ℕ → List ℕ → Device
+recordIn version registers counts pins lines transfers =
+    transfersIn (linesIn (pinsIn (countsIn (registersIn version registers) counts) pins) lines) transfers
+
+unfoldable pub unusedClear : List ℕ → List ℕ → List ℕ → List ℕ → List ℕ → Bool
+unusedClear registers counts pins lines transfers =
+    registersClear registers && countsClear counts && pinsClear pins && linesClear lines && transfersClear transfers
+
+-- "IRF .. must agree with it": D2 of 08H and 09H with what body 5 tells of the ports of body 1
+unfoldable pub irfAgrees : List ℕ → List ℕ → Bool
+irfAgrees registers transfers =
+    Bool·beq (bit (byteAt registers 0x08) 2) (irfOf (patternIn registers 0) (transferIn transfers 0))
+    && Bool·beq (bit (byteAt registers 0x09) 2) (irfOf (patternIn registers 1) (transferIn transfers 1))
 
 -- ---- an image: "Each body is read from the middle of the image, at its entry's offset."
-unfoldable pub deviceIn : List ℕ → Device
-deviceIn s = let l = layoutIn s in recordIn (bodyIn l 1 s) (bodyIn l 2 s) (bodyIn l 3 s) (bodyIn l 4 s)
+unfoldable pub deviceIn : Layout → List ℕ → Device
+deviceIn l s = recordIn (l .version) (bodyIn l 1 s) (bodyIn l 2 s) (bodyIn l 3 s) (bodyIn l 4 s) (bodyIn l 5 s)
 
-unfoldable pub clearIn : List ℕ → Bool
-clearIn s = let l = layoutIn s in unusedClear (bodyIn l 1 s) (bodyIn l 2 s) (bodyIn l 3 s) (bodyIn l 4 s)
+unfoldable pub clearIn : Layout → List ℕ → Bool
+clearIn l s =
+    unusedClear (bodyIn l 1 s) (bodyIn l 2 s) (bodyIn l 3 s) (bodyIn l 4 s) (bodyIn l 5 s) && irfAgrees (bodyIn l 1 s) (bodyIn l 5 s)

@@ -1,5 +1,4 @@
--- Paper 01, "The image": the four bodies of a record, byte for byte, and its image. Every field of the record but one stands in one of
--- them:
+-- Paper 01, "The image", and paper 02, W-205: the bodies of a record, byte for byte, and its image. Every field of the record stands in one of them:
 --
 --   | field                                               | body                                   |
 --   |-----------------------------------------------------|----------------------------------------|
@@ -9,31 +8,28 @@
 --   | ports: outside, catcher                             | 3                                      |
 --   | patterns: mode, handshake, polarity, transition, mask | 1: 20, 21, 25-27 A, 28, 29, 2D-2F B  |
 --   | patterns: ioe, pmf                                  | 1: 08, 09                              |
---   | transfers                                           | none: "The image waits for W-205"      |
 --   | counters: mode, constant, frozen                    | 1: 1C-1E, 16-1B, 10-15                 |
 --   | counters: rcc, gcb, cip                             | 1: 0A-0C                               |
---   | counters: count, half                               | 2                                      |
+--   | counters: count, half, pulse                        | 2                                      |
 --   | sources: ius, ie, ip, err                           | 1: 08, 09 ports, 0A-0C counters        |
 --   | sources: hidden                                     | 2 counters, 3 ports                    |
 --   | iei, phase                                          | 4                                      |
+--   | transfers                                           | 5                                      |
+--   | version                                             | the first byte                         |
 --
 -- Assumes nothing.
 use Prim.Native.Nat.{ℕ, zero, suc, _+_, _-_, _/_, _%_}
 use mathlib.Core.Bool.{true, false}
-use mathlib.Core.Path.{_≡_}
 use mathlib.Core.List.{List, [], _∷_, _++_}
 use Rattle.basics.specs.Signs.{if_then_else_, _==_, within}
 use Rattle.rules.specs.declared.Device.{Device}
+use Rattle.rules.specs.declared.Transfer.{Transfer}
 use Rattle.basics.specs.Byte.{byteIn}
-use Rattle.rules.specs.Record.{registerCount, vacant, vectorAt, portAt, counterAt, sourceAt, ofPort, ofCounter}
+use Rattle.rules.specs.Record.{registerCount, vectorAt, portAt, transferAt, counterAt, sourceAt, ofPort, ofCounter}
 use Rattle.rules.specs.Registers.{kindOf}
 use Rattle.rules.specs.Access.{readOf}
 use Rattle.bodies.specs.declared.Bodies.{Bodies}
 use Rattle.bodies.specs.Layout.{Entry, layoutOf, contentsOf}
-
--- the records that the bodies tell whole: no port holds a byte of a handshake, or has a transfer or a pair of reads under way
-abbrev pub Unheld : Device → Type 0
-Unheld d = d .transfers ≡ vacant ∷ vacant ∷ []
 
 -- the values of f at n places from i
 abbrev pub listed : (ℕ → ℕ) → ℕ → ℕ → List ℕ
@@ -58,9 +54,10 @@ registersFrom d a n = listed (savedByte d) a n
 unfoldable pub registersBody : Device → List ℕ
 registersBody d = registersFrom d 0x00 registerCount
 
--- "flags (D0 second half, D1 hidden error)"
+-- "flags (D0 second half, D1 hidden error)"; version 2 "carries that bit as D2 of the flags" (in version 1 there is no pulse)
 unfoldable pub flagsOf : Device → ℕ → ℕ
-flagsOf d i = (if counterAt d i .half then 1 else 0) + (if sourceAt d (ofCounter i) .hidden then 2 else 0)
+flagsOf d i =
+    (if counterAt d i .half then 1 else 0) + (if sourceAt d (ofCounter i) .hidden then 2 else 0) + (if counterAt d i .pulse then 4 else 0)
 
 -- "count, high first, then flags"
 abbrev pub counterBytes : Device → ℕ → List ℕ
@@ -85,20 +82,30 @@ pinsBody d =
 unfoldable pub linesBody : Device → List ℕ
 linesBody d = (if d .iei then 1 else 0) ∷ (if d .phase then 1 else 0) ∷ []
 
--- the four together, as the call that writes them hands them out
+-- "four a port: front byte, byte behind it, how many are held (0 to 2), then D0 for an unfinished transfer and D1 for a pair half done"
+abbrev pub transferBytes : Transfer → List ℕ
+transferBytes t = t .front ∷ t .behind ∷ t .bytes ∷ ((if t .unfinished then 1 else 0) + (if t .pair then 2 else 0)) ∷ []
+
+-- body 5
+unfoldable pub transfersBody : Device → List ℕ
+transfersBody d = transferBytes (transferAt d 0) ++ transferBytes (transferAt d 1)
+
+-- the five together, as the call that writes them hands them out
 abbrev pub bodiesOf : Device → Bodies
-bodiesOf d = record { registers = registersBody d; counts = countsBody d; pins = pinsBody d; lines = linesBody d }
+bodiesOf d =
+    record { registers = registersBody d; counts = countsBody d; pins = pinsBody d; lines = linesBody d; transfers = transfersBody d }
 
 -- the body of an id; and the bodies of some entries, one behind the other
-abbrev bodyOf : Device → ℕ → List ℕ
+abbrev pub bodyOf : Device → ℕ → List ℕ
 bodyOf d id =
     if id == 1 then registersBody d else
     if id == 2 then countsBody d else
     if id == 3 then pinsBody d else
     if id == 4 then linesBody d else
+    if id == 5 then transfersBody d else
     []
 
-abbrev bodiesFrom : Device → List Entry → List ℕ
+abbrev pub bodiesFrom : Device → List Entry → List ℕ
 bodiesFrom d [] = []
 bodiesFrom d (e ∷ es) = bodyOf d (e .id) ++ bodiesFrom d es
 

@@ -1,7 +1,7 @@
 // One counter/timer: its count, its output, its turn in a step, and a write of its command.
 ghost use mathlib.Core.Path.{_≡_};
 ghost use Rattle.rules.specs.Counters.{continuous, countInput, triggerInput, gateInput, retrigger, square};
-ghost use Rattle.rules.specs.Counters.{takes, loaded, lessOne, terminalOf, countOf, outputOf, reachOf, counts, turnOf, frozenBy, triggeredBy, commandedBy};
+ghost use Rattle.rules.specs.Counters.{takes, loaded, lessOne, terminalOf, countOf, outputOf, reachOf, clocks, clockedBy, pulseOf, turnOf, frozenBy, triggeredBy, commandedBy};
 use rules::Counted;
 use rules::Counter;
 use rules::Link;
@@ -57,6 +57,7 @@ fn load(c: Counter) -> Counter
     e.count = c.constant;
     e.cip = true;
     e.half = false;
+    e.pulse = false;
     e
 }
 
@@ -86,30 +87,43 @@ fn at_terminal(c: Counter) -> Counter
     e
 }
 
-fn count(c: Counter) -> Counted
-    ensures { λ r. ⌜ r ≡ countOf c ⌝ }
+// One count: the pulse rises with a terminal, in version 2, and falls with any other.
+fn count(version: u8, c: Counter) -> Counted
+    ensures { λ r. ⌜ r ≡ countOf version c ⌝ }
 {
     let n = less_one(c.count);
     if n == 0 {
+        let mut t = at_terminal(c);
+        t.pulse = version == 2;
         return Counted {
-            counter: at_terminal(c),
+            counter: t,
             terminal: true,
         };
     }
     let mut e = c;
     e.count = n;
+    e.pulse = false;
     Counted {
         counter: e,
         terminal: false,
     }
 }
 
-pub fn output(c: Counter) -> bool
-    ensures { λ r. ⌜ r ≡ outputOf c ⌝ }
+fn pulse(version: u8, c: Counter) -> bool
+    ensures { λ r. ⌜ r ≡ pulseOf version c ⌝ }
+{
+    if version == 1 {
+        return c.cip & (c.count == 1);
+    }
+    c.pulse
+}
+
+pub fn output(version: u8, c: Counter) -> bool
+    ensures { λ r. ⌜ r ≡ outputOf version c ⌝ }
 {
     let m = c.mode % 4;
     if m == 0 {
-        return c.cip & (c.count == 1);
+        return pulse(version, c);
     }
     if m == 1 {
         return c.cip;
@@ -144,8 +158,23 @@ fn reach(c: Counter, k: Link, timer: bool, were: u8, are: u8) -> Reach
     }
 }
 
-fn turn_by(enabled: bool, h: Reach, c: Counter) -> Counted
-    ensures { λ r. ⌜ r ≡ turnOf enabled h c ⌝ }
+// A count clock at a counter that it reaches.
+fn clock(version: u8, c: Counter) -> Counted
+    ensures { λ r. ⌜ r ≡ clockedBy version c ⌝ }
+{
+    if c.cip {
+        return count(version, c);
+    }
+    let mut e = c;
+    e.pulse = false;
+    Counted {
+        counter: e,
+        terminal: false,
+    }
+}
+
+fn turn_by(version: u8, enabled: bool, h: Reach, c: Counter) -> Counted
+    ensures { λ r. ⌜ r ≡ turnOf version enabled h c ⌝ }
 {
     if h.trigger & takes_trigger(enabled, c) {
         return Counted {
@@ -153,8 +182,8 @@ fn turn_by(enabled: bool, h: Reach, c: Counter) -> Counted
             terminal: false,
         };
     }
-    if enabled & c.cip & c.gcb & h.gate & h.count {
-        return count(c);
+    if enabled & c.gcb & h.gate & h.count {
+        return clock(version, c);
     }
     Counted {
         counter: c,
@@ -163,10 +192,18 @@ fn turn_by(enabled: bool, h: Reach, c: Counter) -> Counted
 }
 
 // A counter's turn in a step.
-pub fn turn(enabled: bool, c: Counter, k: Link, timer: bool, were: u8, are: u8) -> Counted
-    ensures { λ r. ⌜ r ≡ turnOf enabled (reachOf c k timer were are) c ⌝ }
+pub fn turn(
+    version: u8,
+    enabled: bool,
+    c: Counter,
+    k: Link,
+    timer: bool,
+    were: u8,
+    are: u8,
+) -> Counted
+    ensures { λ r. ⌜ r ≡ turnOf version enabled (reachOf c k timer were are) c ⌝ }
 {
-    turn_by(enabled, reach(c, k, timer, were, are), c)
+    turn_by(version, enabled, reach(c, k, timer, were, are), c)
 }
 
 fn freeze(v: bool, c: Counter) -> Counter

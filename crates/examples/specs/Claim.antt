@@ -1,13 +1,15 @@
--- What an example claims: events from the fresh device, each with its whole answer.
+-- What an example claims: events from the fresh device, of either version, each with its whole answer.
 -- Assumes nothing.
 use Prim.Native.Nat.{ℕ}
 use mathlib.Core.Path.{_≡_}
+use mathlib.Core.Bool.{true}
 use mathlib.Core.List.{List, [], _∷_}
 use lib.Dec.{eqb}
+use Rattle.rules.specs.declared.Device.{Device}
 use Rattle.rules.specs.declared.Event.{Event}
 use Rattle.rules.specs.declared.Answer.{Answer}
 use Rattle.rules.specs.declared.Outcome.{Outcome}
-use Rattle.rules.specs.Record.{freshOf}
+use Rattle.rules.specs.Record.{resetTo}
 use Rattle.rules.specs.Events.{eventOf}
 
 -- ---- the events, as a line of a trace writes them
@@ -60,20 +62,24 @@ accepted e = line e (says 0 0x00 0x00 0x00 0x0 0 1 0 0 0 0 0 0)
 abbrev pub reads : ℕ → ℕ → Line
 reads address value = line (R address) (says 0 value 0x00 0x00 0x0 0 1 0 0 0 0 0 0)
 
--- the answers to the events of a claim, each in the record that the one before it left
+-- paper 02, W-205: what the fresh device is in version 1, "a device that keeps the old rule"
+abbrev pub oldOf : Device
+oldOf = resetTo 1 0 0 0 true
+
+-- the answers to the events of a claim, each in the record that the one before it left, from the record d
 unfoldable pub answeredFrom : Outcome → List Line → List Answer
 answeredFrom o [] = o .answer ∷ []
 answeredFrom o (l ∷ ls) = o .answer ∷ answeredFrom (eventOf (o .device) (l .event)) ls
 
-unfoldable pub answersEach : List Line → List Answer
-answersEach [] = []
-answersEach (l ∷ ls) = answeredFrom (eventOf freshOf (l .event)) ls
+unfoldable pub answersEach : Device → List Line → List Answer
+answersEach d [] = []
+answersEach d (l ∷ ls) = answeredFrom (eventOf d (l .event)) ls
 
 unfoldable pub expected : List Line → List Answer
 expected [] = []
 expected (l ∷ ls) = l .answer ∷ expected ls
 
--- every claim of a list is right
-abbrev pub Right : List (List Line) → Type 0
-Right [] = Unit {0}
-Right (p ∷ ps) = (answersEach p ≡ expected p) × Right ps
+-- every claim of a list is right, from the record d
+abbrev pub Right : Device → List (List Line) → Type 0
+Right d [] = Unit {0}
+Right d (p ∷ ps) = (answersEach d p ≡ expected p) × Right d ps

@@ -1,4 +1,4 @@
--- Paper 01, "Examples, in timer clocks; P marks the proved set": P1 to P10, each as a trace from the fresh device; and three of paper 02.
+-- Paper 01, "Examples, in timer clocks; P marks the proved set": P1 to P10, each as a trace from the fresh device; and some of paper 02.
 -- Two PCLK clocks are a timer clock. Counts are read at 10H-15H, IUS, IE, IP and ERR in D7-D4 of 0AH-0CH.
 -- Assumes nothing.
 use mathlib.Core.List.{List, [], _∷_}
@@ -210,3 +210,58 @@ w203pair =
     ∷ line (R 0x0E) (says 0 0x22 0x00 0x22 0x2 0 1 0 0 0 0 0 0)
     ∷ line (R 0x09) (says 0 0x00 0x00 0x22 0x2 0 1 0 0 0 0 0 0)
     ∷ []
+
+-- Paper 02, W-205: the pulse of a single cycle, constant 2, is "high from a terminal count", which stops the counter, "until the
+-- counter's next count clock", or "until a triggered load".
+abbrev pub w205 : List Line
+w205 =
+    accepted (W 0x00 0x00)
+    ∷ accepted (W 0x01 0xC0)
+    ∷ accepted (W 0x17 0x02)
+    ∷ accepted (W 0x1C 0x40)
+    ∷ accepted (W 0x0A 0x06)
+    ∷ accepted (T 3)
+    ∷ line (T 1) (says 0 0x00 0x00 0x10 0x0 0 1 1 0 0 0 0 0)
+    ∷ line (T 1) (says 0 0x00 0x00 0x10 0x0 0 1 0 0 0 0 0 0)
+    ∷ accepted (T 1)
+    ∷ accepted (W 0x0A 0x06)
+    ∷ line (T 4) (says 0 0x00 0x00 0x10 0x0 0 1 1 0 0 0 0 0)
+    ∷ accepted (W 0x0A 0x06)
+    ∷ []
+
+-- In version 1 it is high while the count is 1; and such a device "refuses handshake settings with 4", after a reset too, which "keeps
+-- the version".
+abbrev pub w205old : List Line
+w205old =
+    accepted (W 0x00 0x00)
+    ∷ accepted (W 0x01 0xC0)
+    ∷ accepted (W 0x17 0x02)
+    ∷ accepted (W 0x1C 0x40)
+    ∷ accepted (W 0x0A 0x06)
+    ∷ line (T 2) (says 0 0x00 0x00 0x10 0x0 0 1 0 0 0 0 0 0)
+    ∷ line (T 2) (says 0 0x00 0x00 0x00 0x0 0 1 1 0 0 0 0 0)
+    ∷ line (W 0x20 0x40) (says 4 0x00 0x00 0x00 0x0 0 1 0 0 0 0 0 0)
+    ∷ accepted X
+    ∷ accepted (W 0x00 0x00)
+    ∷ line (W 0x28 0x40) (says 4 0x00 0x00 0x00 0x0 0 1 0 0 0 0 0 0)
+    ∷ []
+
+-- Paper 01: "CT1 constant 2 continuous pulse, LC 11, CT2 constant 3", and then
+abbrev linked : List Line → List Line
+linked rest =
+    accepted (W 0x00 0x00)
+    ∷ accepted (W 0x01 0x63)
+    ∷ accepted (W 0x17 0x02)
+    ∷ accepted (W 0x1C 0x80)
+    ∷ accepted (W 0x19 0x03)
+    ∷ accepted (W 0x0B 0x06)
+    ∷ accepted (W 0x0A 0x06)
+    ∷ rest
+
+-- "The linked example of 01 then has its terminal at clock 6."
+abbrev pub w205linked : List Line
+w205linked = linked (line (T 10) (says 0 0x00 0x00 0x00 0x0 0 1 2 0 0 0 0 0) ∷ line (T 2) (says 0 0x00 0x00 0x00 0x0 0 1 1 1 0 1 0 0) ∷ [])
+
+-- in version 1 "CT2 is terminal at clock 5"
+abbrev pub w205linkedOld : List Line
+w205linkedOld = linked (line (T 8) (says 0 0x00 0x00 0x00 0x0 0 1 2 0 0 0 0 0) ∷ line (T 2) (says 0 0x00 0x00 0x00 0x0 0 1 0 1 0 0 0 0) ∷ [])

@@ -1,5 +1,5 @@
 pub mod Agree
-pub mod Savable
+pub mod Versions
 pub mod Codes
 pub mod Answers
 pub mod RoundTrip

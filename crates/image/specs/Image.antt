@@ -7,10 +7,9 @@ use lib.Dec.{ltb}
 use lib.ListN.{length, take, drop}
 use Rattle.basics.specs.Signs.{if_then_else_, _==_}
 use Rattle.rules.specs.declared.Device.{Device}
-use Rattle.rules.specs.Record.{patternAt, freshOf}
-use Rattle.rules.specs.Handshakes.{handshakes}
+use Rattle.rules.specs.Record.{freshOf}
 use Rattle.rules.specs.Sound.{soundOf}
-use Rattle.bodies.specs.Layout.{layoutOf, layoutIn, contentsLen, lengthOf, contentsOf}
+use Rattle.bodies.specs.Layout.{Layout, layoutOf, layoutIn, contentsLen, lengthOf, contentsOf}
 use Rattle.bodies.specs.Written.{imageOf}
 use Rattle.bodies.specs.Taken.{deviceIn, clearIn}
 use Rattle.image.specs.declared.Restored.{Restored}
@@ -22,18 +21,14 @@ agree [] (y ∷ b) = false
 agree (x ∷ a) [] = false
 agree (x ∷ a) (y ∷ b) = x == y && agree a b
 
--- paper 02, W-203: "The image waits for W-205." "Until W-205, 9 for a save with such a port, sound or not"
-unfoldable pub savable : Device → Bool
-savable d = soundOf d && not (handshakes (patternAt d 0)) && not (handshakes (patternAt d 1))
-
 -- ---- save: "9, then 7", for a buffer of n bytes
 unfoldable pub saveCode : Device → ℕ → ℕ
 saveCode d n =
-    if not (savable d) then 9 else
+    if not (soundOf d) then 9 else
     if ltb n (lengthOf (layoutOf d)) then 7 else
     0
 
--- the buffer after it: refused "its buffer untouched", else "fills 84 bytes and no others"
+-- the buffer after it: refused "its buffer untouched", else "fills 84 bytes and no others", of version 2 96
 unfoldable pub savedOf : Device → List ℕ → List ℕ
 savedOf d e = if saveCode d (length e) == 0 then imageOf d ++ drop (lengthOf (layoutOf d)) e else e
 
@@ -41,10 +36,18 @@ savedOf d e = if saveCode d (length e) == 0 then imageOf d ++ drop (lengthOf (la
 abbrev pub refused : ℕ → Restored
 refused c = record { code = c; device = freshOf }
 
--- "7, 8, 9": "image not 84 bytes", "image's first 18 bytes differ from the table", "bodies break the soundness rules"
+-- "9": "bodies break the soundness rules"
+unfoldable pub acceptedOf : Bool → Device → Restored
+acceptedOf clear d = if not (clear && soundOf d) then refused 9 else record { code = 0; device = d }
+
+-- paper 02, W-205: "restore tests 7 for an image shorter than its version's table .., then 8, then 7 for a length other than the
+-- version's, then 9": an image read in the layout l
+unfoldable pub restoredIn : Layout → List ℕ → Restored
+restoredIn l s =
+    if ltb (length s) (contentsLen l) then refused 7 else
+    if not (agree (take (contentsLen l) s) (contentsOf l)) then refused 8 else
+    if not (length s == lengthOf l) then refused 7 else
+    acceptedOf (clearIn l s) (deviceIn l s)
+
 unfoldable pub restoredOf : List ℕ → Restored
-restoredOf s =
-    if not (length s == lengthOf (layoutIn s)) then refused 7 else
-    if not (agree (take (contentsLen (layoutIn s)) s) (contentsOf (layoutIn s))) then refused 8 else
-    if not (clearIn s && savable (deviceIn s)) then refused 9 else
-    record { code = 0; device = deviceIn s }
+restoredOf s = restoredIn (layoutIn s) s

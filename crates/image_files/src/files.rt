@@ -1,9 +1,9 @@
 // Image files. A file is replaced whole or not at all: the image goes to a new file beside it, is written out to the
-// disk, and then takes its name.
+// disk, and then takes its name; then the folder is written out too.
 ghost use mathlib.Core.Bool.{true, false};
 ghost use mathlib.Core.Path.{_≡_};
 ghost use Rattle.io.specs.Counts.{Counts};
-ghost use Rattle.image.specs.Image.{savable};
+ghost use Rattle.rules.specs.Sound.{soundOf};
 ghost use Rattle.image_files.specs.Files.{isDash, freshLoaded};
 use crate::Loaded;
 use console::print;
@@ -64,9 +64,17 @@ fn is_empty(fd: i32) -> bool {
     libc::read(fd, &mut more) >= 0
 }
 
+// The version of an image that begins with a byte; one that is unknown counts as 1.
+fn version_of(first: u8) -> u8 {
+    if first == 2 {
+        return 2;
+    }
+    1
+}
+
 // The device of an open file. One byte more is read than an image has: then a longer file is refused too.
 fn restore_from(fd: i32, path: &[u8], report: i32) -> Loaded {
-    let mut buf = [0u8; Device::IMAGE_LEN + 1];
+    let mut buf = [0u8; Device::IMAGE + 1];
     let n = io::read_full(fd, &mut buf);
     if n == 0 {
         if !is_empty(fd) {
@@ -76,7 +84,11 @@ fn restore_from(fd: i32, path: &[u8], report: i32) -> Loaded {
     }
     let r = image::restore(&buf[..n]);
     if r.code != 0 {
-        say(report, path, phrases::refusal_line(r.code, n));
+        say(
+            report,
+            path,
+            phrases::refusal_line(r.code, version_of(buf[0]), n),
+        );
         return none();
     }
     let d = r.device;
@@ -147,8 +159,25 @@ fn made_and_gone(name: &mut [u8], path: &[u8], report: i32) -> bool {
     true
 }
 
-// Whether a file can be made beside this one; it is taken away again.
+// Whether the name is a folder's, which no file can take; a line says so.
+fn is_folder(path: &[u8], report: i32) -> bool {
+    let fd = os::open_update(path);
+    if fd >= 0 {
+        libc::close(fd);
+        return false;
+    }
+    if os::errno() != libc::EISDIR {
+        return false;
+    }
+    trouble(report, path, true);
+    true
+}
+
+// Whether a file can be made beside this one, which is no folder; it is taken away again.
 pub(crate) fn can_keep(path: &[u8], report: i32) -> bool {
+    if is_folder(path, report) {
+        return false;
+    }
     let mut name = io::buffer();
     let n = beside(path, &mut name);
     made_and_gone(&mut name[..n], path, report)
@@ -160,6 +189,41 @@ fn write_out(fd: i32, image: &[u8]) -> bool {
         return false;
     }
     libc::fsync(fd) == 0
+}
+
+// How much of a name is its folder's: what ends in the last stroke.
+fn folder_len(path: &[u8]) -> usize
+    ensures { λ r. ⌜ Counts r (now (path .entry)) ⌝ }
+{
+    let mut n = 0;
+    let mut i = 0;
+    while i < path.len() {
+        let stroke = path[i] == b'/';
+        i += 1;
+        if stroke {
+            n = i;
+        }
+    }
+    n
+}
+
+fn folder_out(folder: &[u8]) -> bool {
+    let fd = os::open_read(folder);
+    if fd < 0 {
+        return false;
+    }
+    let ok = libc::fsync(fd) == 0;
+    libc::close(fd);
+    ok
+}
+
+// Writes the folder of a file out to the disk, so that the file's new name lasts.
+fn name_out(path: &[u8]) -> bool {
+    let n = folder_len(path);
+    if n == 0 {
+        return folder_out(b".");
+    }
+    folder_out(&path[..n])
 }
 
 // Puts an image into a new file, and gives that file the name.
@@ -181,6 +245,10 @@ fn replace_by(name: &mut [u8], path: &[u8], report: i32, image: &[u8]) -> bool {
         os::unlink(name);
         return false;
     }
+    if !name_out(path) {
+        io::write_all(report, path);
+        io::write_all(report, b": saved, but its folder cannot be written out\n");
+    }
     true
 }
 
@@ -190,15 +258,31 @@ fn replace(path: &[u8], report: i32, image: &[u8]) -> bool {
     replace_by(&mut name[..n], path, report, image)
 }
 
+// How much of a buffer an image of a version fills.
+fn image_part(version: u8, buf: &[u8]) -> usize
+    ensures { λ r. ⌜ Counts r (now (buf .entry)) ⌝ }
+{
+    let n = Device::image_len(version);
+    if buf.len() < n {
+        return buf.len();
+    }
+    n
+}
+
 // Saves a device to an image file. Answers whether it is saved; where not, the file is as it was, and a line says why.
 pub fn keep(path: &[u8], d: Device, report: i32) -> bool
-    ensures { λ r. ⌜ (savable d ≡ false → r ≡ false) ⌝ }
+    ensures { λ r. ⌜ (soundOf d ≡ false → r ≡ false) ⌝ }
 {
-    let mut image = [0u8; Device::IMAGE_LEN];
+    let mut image = [0u8; Device::IMAGE];
     let code = image::save(d, &mut image);
     if code != 0 {
-        say(report, path, phrases::refusal_line(code, Device::IMAGE_LEN));
+        say(
+            report,
+            path,
+            phrases::refusal_line(code, d.version, Device::IMAGE),
+        );
         return false;
     }
-    replace(path, report, &image)
+    let n = image_part(d.version, &image);
+    replace(path, report, &image[..n])
 }

@@ -61,7 +61,7 @@ fn ports_in(b: &[u8]) -> [Port; 3]
 }
 
 // Port A's or B's.
-fn pattern_in(b: &[u8], p: usize) -> Pattern
+pub(crate) fn pattern_in(b: &[u8], p: usize) -> Pattern
     requires { ⌜ p < 2 ⌝ }
     ensures { λ r. ⌜ r ≡ patternIn (now (b .entry)) p ⌝ }
 {
@@ -90,11 +90,12 @@ fn counter_in(b: &[u8], i: usize) -> Counter
         gcb: bit_at(b, 0x0A + i, 2),
         cip: bit_at(b, 0x0A + i, 0),
         half: false,
+        pulse: false,
     }
 }
 
-pub(crate) fn read_registers(b: &[u8]) -> Device
-    ensures { λ r. ⌜ r ≡ registersIn (now (b .entry)) ⌝ }
+pub(crate) fn read_registers(version: u8, b: &[u8]) -> Device
+    ensures { λ r. ⌜ r ≡ registersIn version (now (b .entry)) ⌝ }
 {
     let none = Transfer {
         front: 0,
@@ -104,6 +105,7 @@ pub(crate) fn read_registers(b: &[u8]) -> Device
         pair: false,
     };
     Device {
+        version: version,
         master: basics::byte_at(b, 0x00),
         config: basics::byte_at(b, 0x01),
         vectors: [

@@ -1,24 +1,27 @@
-// Bodies 2, 3 and 4: what each puts into a record.
+// Bodies 2 to 5: what each puts into a record.
 ghost use mathlib.Core.Path.{_≡_};
 ghost use Prim.Native.Nat.{_<_};
 ghost use Rattle.rules.specs.With.{withHidden, withOutside, withCatcher};
-ghost use Rattle.bodies.specs.Taken.{counterWith, sourcesWith, countsIn, portsWith, hiddenWith, pinsIn, linesIn};
+ghost use Rattle.bodies.specs.Taken.{counterWith, sourcesWith, countsIn, portsWith, hiddenWith, pinsIn, linesIn, transferIn, transfersIn};
 use crate::bits::bit_at;
 use rules::Counter;
 use rules::Device;
 use rules::Port;
 use rules::Source;
+use rules::Transfer;
 
-// Counter i with its count and its half.
+// Counter i with its count, its half and its pulse.
 fn counter_with(c: Counter, b: &[u8], i: usize) -> Counter
     requires { ⌜ i < 3 ⌝ }
     ensures { λ r. ⌜ r ≡ counterWith c (now (b .entry)) i ⌝ }
 {
     let n = basics::word_at(b, 3 * i, 1 + 3 * i);
     let h = bit_at(b, 2 + 3 * i, 0);
+    let p = bit_at(b, 2 + 3 * i, 2);
     Counter {
         count: n,
         half: h,
+        pulse: p,
         ..c
     }
 }
@@ -108,6 +111,29 @@ pub(crate) fn read_lines(d: Device, b: &[u8]) -> Device
     Device {
         iei: bit_at(b, 0, 0),
         phase: bit_at(b, 1, 0),
+        ..d
+    }
+}
+
+// What port p holds.
+pub(crate) fn transfer_in(b: &[u8], p: usize) -> Transfer
+    requires { ⌜ p < 2 ⌝ }
+    ensures { λ r. ⌜ r ≡ transferIn (now (b .entry)) p ⌝ }
+{
+    Transfer {
+        front: basics::byte_at(b, 4 * p),
+        behind: basics::byte_at(b, 1 + 4 * p),
+        bytes: basics::byte_at(b, 2 + 4 * p),
+        unfinished: bit_at(b, 3 + 4 * p, 0),
+        pair: bit_at(b, 3 + 4 * p, 1),
+    }
+}
+
+pub(crate) fn read_transfers(d: Device, b: &[u8]) -> Device
+    ensures { λ r. ⌜ r ≡ transfersIn d (now (b .entry)) ⌝ }
+{
+    Device {
+        transfers: [transfer_in(b, 0), transfer_in(b, 1)],
         ..d
     }
 }

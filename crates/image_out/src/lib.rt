@@ -1,4 +1,4 @@
-// The four bodies of a record's image, written.
+// The bodies of a record's image, written.
 mod registers;
 mod rest;
 
@@ -15,5 +15,6 @@ pub fn bodies(d: Device) -> Bodies
         counts: rest::counts(d),
         pins: rest::pins(d),
         lines: rest::lines(d),
+        transfers: rest::transfers(d),
     }
 }

@@ -1,7 +1,9 @@
-// Restores the images on standard input, a line of hexadecimal digits for each, and prints the code of each.
+// Restores the images on standard input, a line of hexadecimal digits for each, and prints the code of each; with 0 the image that
+// saving its record writes.
 ghost use Prim.Native.Nat.{_<_};
 use libc::STDIN_FILENO;
 use libc::STDOUT_FILENO;
+use rules::Device;
 
 // The bytes of a line so far, two digits to a byte; a longer line keeps its first 128.
 struct Line {
@@ -23,6 +25,7 @@ fn digit(c: u8) -> u8
     match c {
         b'0'..=b'9' => c - b'0',
         b'a'..=b'f' => c - b'a' + 10,
+        b'A'..=b'F' => c - b'A' + 10,
         _ => 0,
     }
 }
@@ -38,12 +41,51 @@ fn with_digit(l: Line, c: u8) -> Line {
     m
 }
 
+// A digit's character.
+fn character(n: u8) -> u8
+    requires { ⌜ n < 16 ⌝ }
+{
+    if n < 10 {
+        return b'0' + n;
+    }
+    b'A' + (n - 10)
+}
+
+fn print_byte(x: u8) {
+    io::write_all(STDOUT_FILENO, &[character(x / 16), character(x % 16)]);
+}
+
+fn print_bytes(b: &[u8]) {
+    let mut i = 0;
+    while i < b.len() {
+        print_byte(b[i]);
+        i += 1;
+    }
+}
+
+fn print_first(b: &[u8], n: usize) {
+    if n > b.len() {
+        return;
+    }
+    print_bytes(&b[0..n]);
+}
+
+fn print_image(d: Device) {
+    let mut buf = [0u8; Device::IMAGE];
+    image::save(d, &mut buf);
+    io::write_all(STDOUT_FILENO, b" ");
+    print_first(&buf, Device::image_len(d.version));
+}
+
 fn print_code(b: &[u8], n: usize) {
     if n > b.len() {
         return;
     }
     let r = image::restore(&b[0..n]);
     io::print_decimal(STDOUT_FILENO, r.code as u64);
+    if r.code == 0 {
+        print_image(r.device);
+    }
     io::write_all(STDOUT_FILENO, b"\n");
 }
 

@@ -111,10 +111,10 @@ fn value_at(d: Device, p: usize) -> u8
     if p == 1 {
         let c1 = d.counters[0];
         let c2 = d.counters[1];
-        return port::stand(c1, true, port::stand(c2, false, x));
+        return port::stand(d.version, c1, true, port::stand(d.version, c2, false, x));
     }
     let c3 = d.counters[2];
-    handshake::shown(d, port::stand(c3, false, x))
+    handshake::shown(d, port::stand(d.version, c3, false, x))
 }
 
 pub fn pins_at(d: Device, p: usize) -> u8

@@ -49,12 +49,12 @@ fn place(high: bool) -> u8
 }
 
 // The byte x with the counter's output at D4 or D0, where the output is enabled.
-pub(crate) fn stand(c: Counter, high: bool, x: u8) -> u8
-    ensures { λ r. ⌜ r ≡ standing c (cond high 4 0) x ⌝ }
+pub(crate) fn stand(version: u8, c: Counter, high: bool, x: u8) -> u8
+    ensures { λ r. ⌜ r ≡ standing version c (cond high 4 0) x ⌝ }
 {
     if output_enabled(c) {
         let w = place(high);
-        let on = counters::output(c);
+        let on = counters::output(version, c);
         return (x & (w ^ 255)) | (ports::spread(on) & w);
     }
     x

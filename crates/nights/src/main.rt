@@ -1,5 +1,6 @@
 // Nights and devices in words, one after the other: what `show` prints of four images, a night with one argument, a night
-// refused in each way, a night cut in three, and a night between two long runs.
+// refused in each way, a night cut in three, a night between two long runs, one of a version 1 device, and one with a
+// handshake.
 use libc::STDIN_FILENO;
 use libc::STDOUT_FILENO;
 
@@ -23,20 +24,20 @@ fn refused(from: &[u8], to: &[u8]) {
     night(from, to, b"two_lines");
 }
 
-// A night refused in each way, at last for a port with handshake that the trace sets up. The file `kept` stays as it is,
-// which the last night shows: it runs on it.
+// A night refused in each way. The file `kept` stays as it is, which the last night shows: it runs on it.
 fn refusals() {
     refused(b"missing", b"kept");
     refused(b".", b"kept");
     refused(b"empty", b"kept");
     refused(b"short", b"kept");
     refused(b"long", b"kept");
+    refused(b"short2", b"kept");
+    refused(b"long2", b"kept");
     refused(b"contents", b"kept");
     refused(b"unsound", b"kept");
     refused(b"kept", b"missing/kept");
     refused(b"kept", b"kept/kept");
     refused(b"kept", b"folder");
-    night(b"kept", b"kept", b"handshake");
     refused(b"kept", b"kept");
 }
 
@@ -72,10 +73,28 @@ fn between_long_runs() {
     print_same(b"uncut", b"cut");
 }
 
+// A night of a version 1 device goes on as before, and ends in an image of version 1. Its trace asks for handshakes too,
+// which the device refuses.
+fn of_old() {
+    night(b"old/evening", b"old/morning", b"old/trace");
+    print_same(b"old/morning", b"old/end");
+}
+
+// A handshake port that holds two bytes over the night, and a counter whose pulse is high.
+fn with_handshake() {
+    night(b"-", b"held", b"handshake/evening");
+    show(b"held");
+    night(b"held", b"held", b"handshake/morning");
+    night(b"-", b"unbroken", b"handshake/whole");
+    print_same(b"held", b"unbroken");
+}
+
 fn main() {
     shown();
     image_files::night_arguments(STDIN_FILENO, STDOUT_FILENO, STDOUT_FILENO);
     refusals();
     in_parts();
     between_long_runs();
+    of_old();
+    with_handshake();
 }

@@ -10,20 +10,20 @@ use Rattle.texts.specs.Answers.{decimalText}
 use Rattle.texts.specs.Spelled.{spelled}
 
 -- ---- images
--- "7 | save buffer under 84 bytes, or image not 84 bytes", for a file of n bytes
-unfoldable pub side : ℕ → List ℕ
-side n = if ltb imageLen n then spelled ": refused 7 (over " else spelled ": refused 7 (under "
+-- "7 for an image shorter than its version's table .. 7 for a length other than the version's", for a file of n bytes: of both
+-- it is so that they are under or over that length
+unfoldable pub side : ℕ → ℕ → List ℕ
+side version n = if ltb (imageLen version) n then spelled ": refused 7 (over " else spelled ": refused 7 (under "
 
-unfoldable pub notWhole : ℕ → List ℕ
-notWhole n = side n ++ decimalText imageLen ++ spelled " bytes)\n"
+unfoldable pub notWhole : ℕ → ℕ → List ℕ
+notWhole version n = side version n ++ decimalText (imageLen version) ++ spelled " bytes)\n"
 
--- "8 | image's first 18 bytes differ from the table", "9 | record or bodies break the soundness rules"; paper 02,
--- W-203: "Until W-205, 9 for a save with such a port, sound or not"
-unfoldable pub refusal : ℕ → ℕ → List ℕ
-refusal code n =
-    if code == 7 then notWhole n else
+-- "8 | image's first 18 bytes differ from the table", "9 | record or bodies break the soundness rules"
+unfoldable pub refusal : ℕ → ℕ → ℕ → List ℕ
+refusal code version n =
+    if code == 7 then notWhole version n else
     if code == 8 then spelled ": refused 8 (contents differ)\n" else
-    spelled ": refused 9 (unsound, or a port with handshake)\n"
+    spelled ": refused 9 (bodies unsound)\n"
 
 -- ---- files
 -- what was tried

@@ -6,34 +6,31 @@ use crate::word;
 use rules::Device;
 use texts::Text;
 
-fn side(n: usize) -> Text
-    ensures { λ r. ⌜ r ≡ typed noText (sideOf n) ⌝ }
+fn side(version: u8, n: usize) -> Text
+    ensures { λ r. ⌜ r ≡ typed noText (sideOf version n) ⌝ }
 {
     let t = texts::no_text();
-    if Device::IMAGE_LEN < n {
+    if Device::image_len(version) < n {
         return word(t, b": refused 7 (over ");
     }
     word(t, b": refused 7 (under ")
 }
 
-fn not_whole(n: usize) -> Text
-    ensures { λ r. ⌜ r ≡ typed noText (notWhole n) ⌝ }
+fn not_whole(version: u8, n: usize) -> Text
+    ensures { λ r. ⌜ r ≡ typed noText (notWhole version n) ⌝ }
 {
-    let t = texts::decimal(side(n), Device::IMAGE_LEN as u32);
+    let t = texts::decimal(side(version, n), Device::image_len(version) as u32);
     word(t, b" bytes)\n")
 }
 
-// Why an image of n bytes is refused, by the code of the refusal.
-pub fn refusal_line(code: u8, n: usize) -> Text
-    ensures { λ r. ⌜ r ≡ typed noText (refusal code n) ⌝ }
+// Why an image of a version and of n bytes is refused, by the code of the refusal.
+pub fn refusal_line(code: u8, version: u8, n: usize) -> Text
+    ensures { λ r. ⌜ r ≡ typed noText (refusal code version n) ⌝ }
 {
     match code {
-        7 => not_whole(n),
+        7 => not_whole(version, n),
         8 => word(texts::no_text(), b": refused 8 (contents differ)\n"),
-        _ => word(
-            texts::no_text(),
-            b": refused 9 (unsound, or a port with handshake)\n",
-        ),
+        _ => word(texts::no_text(), b": refused 9 (bodies unsound)\n"),
     }
 }
 

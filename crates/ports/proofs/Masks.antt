@@ -74,21 +74,21 @@ seen-bits f c x hc hx =
     simp (bit-or, bit-and, bit-xor, ones k h, bit-byte f k h)
     (same _ _ (all3 (λ m c x. Bool·beq ((c && m) || (x && differs m true)) (seenBit m c x)) tt (f k) (bit c k) (bit x k))))
 
--- the byte x with c's output at Dk, where it is enabled
-pub stand-bits : (c : Counter) (k x : ℕ) → x < 256 → outputEnabled c ≡ true
-    → bitOr (bitAnd x (bitXor (byteOf (λ j. eqb j k)) 255)) (bitAnd (byteOf (λ j. outputOf c)) (byteOf (λ j. eqb j k))) ≡ standing c k x
+-- the byte x with c's output at Dk, where it is enabled; v is the version
+pub stand-bits : (v : ℕ) (c : Counter) (k x : ℕ) → x < 256 → outputEnabled c ≡ true
+    → bitOr (bitAnd x (bitXor (byteOf (λ j. eqb j k)) 255)) (bitAnd (byteOf (λ j. outputOf v c)) (byteOf (λ j. eqb j k))) ≡ standing v c k x
 unfolding standing
-stand-bits c k x hx e =
+stand-bits v c k x hx e =
     by-bits _ _ (search (or-lt 8, and-lt 8, xor-lt 8, byte-lt, lit<, tt) depth 9)
     (λ j h.
-    simp (bit-or, bit-and, bit-xor, ones j h, bit-byte (λ j. eqb j k) j h, bit-byte (λ j. outputOf c) j h, e)
-    (same _ _ (all3 (λ m b x. Bool·beq ((x && differs m true) || (b && m)) (cond (m && true) b x)) tt (eqb j k) (outputOf c) (bit x j))))
+    simp (bit-or, bit-and, bit-xor, ones j h, bit-byte (λ j. eqb j k) j h, bit-byte (λ j. outputOf v c) j h, e)
+    (same _ _ (all3 (λ m b x. Bool·beq ((x && differs m true) || (b && m)) (cond (m && true) b x)) tt (eqb j k) (outputOf v c) (bit x j))))
 
-pub kept-bits : (c : Counter) (k x : ℕ) → x < 256 → outputEnabled c ≡ false → x ≡ standing c k x
+pub kept-bits : (v : ℕ) (c : Counter) (k x : ℕ) → x < 256 → outputEnabled c ≡ false → x ≡ standing v c k x
 unfolding standing
-kept-bits c k x hx e =
+kept-bits v c k x hx e =
     by-bits _ _ hx
-    (λ j h. simp (e) (same _ _ (all3 (λ m b x. Bool·beq x (cond (m && false) b x)) tt (eqb j k) (outputOf c) (bit x j))))
+    (λ j h. simp (e) (same _ _ (all3 (λ m b x. Bool·beq x (cond (m && false) b x)) tt (eqb j k) (outputOf v c) (bit x j))))
 
 -- D7-D4 protect D3-D0
 pub opened-bits : (b : ℕ) → b < 256 → bitAnd (bitXor (b / 16) 255) 15 ≡ byteOf (λ k. ltb k 4 && not (bit b (k + 4)))

@@ -10,7 +10,7 @@ use mathlib.Core.List.{List}
 use mathlib.Core.Path.{refl}
 use Rattle.basics.specs.Buffer.{fits, laidOf}
 use Rattle.basics.specs.Byte.{byteIn, byteOf, withByte}
-use Rattle.bodies.specs.Taken.{recordIn, unusedClear}
+use Rattle.bodies.specs.Taken.{irfAgrees, recordIn, unusedClear}
 use Rattle.bodies.specs.Written.{bodiesOf}
 use Rattle.image.specs.Image.{restoredOf, saveCode, savedOf}
 use Rattle.input.specs.Input.{unread}
@@ -20,7 +20,7 @@ use Rattle.measure.specs.Measure.{measureStart, measuredOf, tableOf}
 use Rattle.phrases.specs.Refusals.{refusal, trouble}
 use Rattle.registers.specs.Place.{place}
 use Rattle.rules.specs.Access.{afterRead, readOf, writtenOf}
-use Rattle.rules.specs.Counters.{commandedBy, counts, outputOf, reachOf, turnOf}
+use Rattle.rules.specs.Counters.{commandedBy, outputOf, reachOf, turnOf}
 use Rattle.rules.specs.Events.{codeOf, eventOf}
 use Rattle.rules.specs.Handshakes.{depth, handshakes, irfOf, readyOf}
 use Rattle.rules.specs.Interrupts.{acknowledge, acknowledged, currentVector, fateOf, ieoOf, intOf, requester, vectorRead}
@@ -38,7 +38,7 @@ use Rattle.texts.specs.Kept.{bytesOf, noText, pushed, typed}
 use Rattle.words.specs.Shown.{shownLine}
 use denote.Ref.{now}
 use lib.ListN.{drop, getD, length}
-use mathlib.Core.Bool.{cond}
+use mathlib.Core.Bool.{_&&_, cond}
 use Rattle.rules.specs.declared.Answer.{Answer}
 use Rattle.rules.specs.declared.Device.{Device}
 use Rattle.session.specs.declared.Fed.{Fed}
@@ -139,7 +139,7 @@ module _ {M : Type 1} (𝓤 : URA M) where
   rules-Device-fresh = one-result 𝓤 rules·Device-fresh.ended (rules·Device-fresh.clauses 𝓤) (λ κs a. freshOf) refl
 
   pub rules-Device-image-len : OneResult 𝓤 rules·Device-image-len.ended (rules·Device-image-len.clauses 𝓤)
-  rules-Device-image-len = one-result 𝓤 rules·Device-image-len.ended (rules·Device-image-len.clauses 𝓤) (λ κs a. imageLen) refl
+  rules-Device-image-len = one-result 𝓤 rules·Device-image-len.ended (rules·Device-image-len.clauses 𝓤) (λ κs a. imageLen (a .0)) refl
 
   pub rules-Device-registers : OneResult 𝓤 rules·Device-registers.ended (rules·Device-registers.clauses 𝓤)
   rules-Device-registers = one-result 𝓤 rules·Device-registers.ended (rules·Device-registers.clauses 𝓤) (λ κs a. registerCount) refl
@@ -214,7 +214,7 @@ module _ {M : Type 1} (𝓤 : URA M) where
   pub phrases-refusal-line : OneResult 𝓤 phrases·refusal-line.ended (phrases·refusal-line.clauses 𝓤)
   phrases-refusal-line =
       one-result 𝓤 phrases·refusal-line.ended (phrases·refusal-line.clauses 𝓤)
-      (λ κs a. typed noText (refusal (a .0) (a .1 .0))) refl
+      (λ κs a. typed noText (refusal (a .0) (a .1 .0) (a .1 .1 .0))) refl
 
   pub phrases-trouble-line : OneResult 𝓤 phrases·trouble-line.ended (phrases·trouble-line.clauses 𝓤)
   phrases-trouble-line =
@@ -257,12 +257,14 @@ module _ {M : Type 1} (𝓤 : URA M) where
       (λ H A at-mem run κs a g r x. fact-mono 𝓤 _ _ (λ p i. (p .1 i, p .0 i)))
 
   pub counters-output : OneResult 𝓤 counters·output.ended (counters·output.clauses 𝓤)
-  counters-output = one-result 𝓤 counters·output.ended (counters·output.clauses 𝓤) (λ κs a. outputOf (a .0)) refl
+  counters-output = one-result 𝓤 counters·output.ended (counters·output.clauses 𝓤) (λ κs a. outputOf (a .0) (a .1 .0)) refl
 
   pub counters-turn : OneResult 𝓤 counters·turn.ended (counters·turn.clauses 𝓤)
   counters-turn =
       one-result 𝓤 counters·turn.ended (counters·turn.clauses 𝓤)
-      (λ κs a. turnOf (a .0) (reachOf (a .1 .0) (a .1 .1 .0) (a .1 .1 .1 .0) (a .1 .1 .1 .1 .0) (a .1 .1 .1 .1 .1 .0)) (a .1 .0)) refl
+      (λ κs a.
+      turnOf (a .0) (a .1 .0)
+      (reachOf (a .1 .1 .0) (a .1 .1 .1 .0) (a .1 .1 .1 .1 .0) (a .1 .1 .1 .1 .1 .0) (a .1 .1 .1 .1 .1 .1 .0)) (a .1 .1 .0)) refl
 
   pub counters-command : OneResult 𝓤 counters·command.ended (counters·command.clauses 𝓤)
   counters-command = one-result 𝓤 counters·command.ended (counters·command.clauses 𝓤) (λ κs a. commandedBy (a .0) (a .1 .0) (a .1 .1 .0)) refl
@@ -270,12 +272,14 @@ module _ {M : Type 1} (𝓤 : URA M) where
   pub image-in-device : OneResult 𝓤 image-in·device.ended (image-in·device.clauses 𝓤)
   image-in-device =
       one-result 𝓤 image-in·device.ended (image-in·device.clauses 𝓤)
-      (λ κs a. recordIn (now (a .0)) (now (a .1 .0)) (now (a .1 .1 .0)) (now (a .1 .1 .1 .0))) refl
+      (λ κs a. recordIn (a .0) (now (a .1 .0)) (now (a .1 .1 .0)) (now (a .1 .1 .1 .0)) (now (a .1 .1 .1 .1 .0)) (now (a .1 .1 .1 .1 .1 .0))) refl
 
   pub image-in-clear : OneResult 𝓤 image-in·clear.ended (image-in·clear.clauses 𝓤)
   image-in-clear =
       one-result 𝓤 image-in·clear.ended (image-in·clear.clauses 𝓤)
-      (λ κs a. unusedClear (now (a .0)) (now (a .1 .0)) (now (a .1 .1 .0)) (now (a .1 .1 .1 .0))) refl
+      (λ κs a.
+      unusedClear (now (a .0)) (now (a .1 .0)) (now (a .1 .1 .0)) (now (a .1 .1 .1 .0)) (now (a .1 .1 .1 .1 .0))
+      && irfAgrees (now (a .0)) (now (a .1 .1 .1 .1 .0))) refl
 
   pub image-out-bodies : OneResult 𝓤 image-out·bodies.ended (image-out·bodies.clauses 𝓤)
   image-out-bodies = one-result 𝓤 image-out·bodies.ended (image-out·bodies.clauses 𝓤) (λ κs a. bodiesOf (a .0)) refl

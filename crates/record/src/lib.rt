@@ -15,6 +15,7 @@ pub fn reset(d: Device) -> Device
     ensures { λ r. ⌜ r ≡ resetOf d ⌝ }
 {
     let mut e = Device::fresh();
+    e.version = d.version;
     e.ports[0].outside = d.ports[0].outside;
     e.ports[1].outside = d.ports[1].outside;
     e.ports[2].outside = d.ports[2].outside;
@@ -39,6 +40,7 @@ fn same_counter(c: Counter, e: Counter) -> bool
         & (c.gcb == e.gcb)
         & (c.cip == e.cip)
         & (c.half == e.half)
+        & (c.pulse == e.pulse)
 }
 
 fn same_port(q: Port, s: Port) -> bool
@@ -158,7 +160,8 @@ pub fn same(d: Device, e: Device) -> bool
     let transfers = same_transfers(d, e);
     let counters = same_counters(d, e);
     let sources = same_sources(d, e);
-    (d.master == e.master)
+    (d.version == e.version)
+        & (d.master == e.master)
         & (d.config == e.config)
         & vectors
         & ports

@@ -1,13 +1,22 @@
 // The settings left to later requests: code 4, and "no code 4 setting" of a sound record.
 ghost use mathlib.Core.Path.{_≡_};
+ghost use mathlib.Core.Bool.{cond};
 ghost use Prim.Native.Nat.{_<_};
+ghost use Rattle.basics.specs.Signs.{_==_};
 ghost use Rattle.rules.specs.Registers.{portOf, laterPortMode, laterHandshake, laterConfig, laterCounterMode, later};
 use rules::Device;
 
-pub(crate) fn later_port_mode(b: u32) -> bool
-    ensures { λ r. ⌜ r ≡ laterPortMode b ⌝ }
+// The last of the port types that are not left to later requests: version 1 has bit ports alone.
+fn last_type(version: u8) -> u32
+    ensures { λ r. ⌜ r ≡ cond (version == 1) 0 1 ⌝ }
 {
-    (1 < b / 64) | (b / 2 % 4 == 3) | (b % 2 == 1)
+    if version == 1 { 0 } else { 1 }
+}
+
+pub(crate) fn later_port_mode(version: u8, b: u32) -> bool
+    ensures { λ r. ⌜ r ≡ laterPortMode version b ⌝ }
+{
+    (last_type(version) < b / 64) | (b / 2 % 4 == 3) | (b % 2 == 1)
 }
 
 // Whether the registers of a port with handshake hold a setting left to later requests together.
@@ -41,7 +50,7 @@ pub(crate) fn later(d: Device, a: u32, b: u32) -> bool
     ensures { λ r. ⌜ r ≡ later d a b ⌝ }
 {
     let q = d.patterns[port_of(a)];
-    let port_mode = later_port_mode(b) | later_handshake(b, q.handshake as u32);
+    let port_mode = later_port_mode(d.version, b) | later_handshake(b, q.handshake as u32);
     let handshake = later_handshake(q.mode as u32, b);
     let config = later_config(b);
     let counter_mode = later_counter_mode(b);

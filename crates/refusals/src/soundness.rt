@@ -4,7 +4,7 @@ ghost use Prim.Native.Nat.{_<_};
 ghost use Rattle.rules.specs.Record.{counterAt, sourceAt};
 ghost use Rattle.rules.specs.Registers.{counterEnabled};
 ghost use Rattle.rules.specs.Sound.{fourBits, laterPort, noLater, soundSource, soundCounter, soundPort, soundPortAt, pmfOnly, heldOnly, soundTransfer, soundTransferAt};
-ghost use Rattle.rules.specs.Sound.{resetOnly, soundSources, soundCounters, soundPorts, soundPatterns, soundTransfers, soundOf};
+ghost use Rattle.rules.specs.Sound.{resetOnly, soundSources, soundCounters, soundPorts, soundPatterns, soundTransfers, soundVersion, soundOf};
 use crate::settings;
 use rules::Counter;
 use rules::Device;
@@ -37,18 +37,19 @@ fn sound_sources(d: Device) -> bool
         & sound_source_at(d, 4)
 }
 
-fn sound_counter(enabled: bool, c: Counter) -> bool
-    ensures { λ r. ⌜ r ≡ soundCounter enabled c ⌝ }
+fn sound_counter(version: u8, enabled: bool, c: Counter) -> bool
+    ensures { λ r. ⌜ r ≡ soundCounter version enabled c ⌝ }
 {
-    (!c.cip | enabled) & (!c.half | c.cip) & (c.rcc | (c.frozen == 0))
+    let pulse = !c.pulse | ((version == 2) & enabled);
+    (!c.cip | enabled) & (!c.half | c.cip) & (c.rcc | (c.frozen == 0)) & pulse
 }
 
 fn sound_counter_at(d: Device, i: usize) -> bool
     requires { ⌜ i < 3 ⌝ }
-    ensures { λ r. ⌜ r ≡ soundCounter (counterEnabled d i) (counterAt d i) ⌝ }
+    ensures { λ r. ⌜ r ≡ soundCounter (d .version) (counterEnabled d i) (counterAt d i) ⌝ }
 {
     let c = d.counters[i];
-    sound_counter(levels::counter_on(d.config, i), c)
+    sound_counter(d.version, levels::counter_on(d.config, i), c)
 }
 
 fn sound_counters(d: Device) -> bool
@@ -148,10 +149,10 @@ fn wide(b: u8) -> u32
     b as u32
 }
 
-fn later_port(q: Pattern) -> bool
-    ensures { λ r. ⌜ r ≡ laterPort q ⌝ }
+fn later_port(version: u8, q: Pattern) -> bool
+    ensures { λ r. ⌜ r ≡ laterPort version q ⌝ }
 {
-    settings::later_port_mode(wide(q.mode))
+    settings::later_port_mode(version, wide(q.mode))
         | settings::later_handshake(wide(q.mode), wide(q.handshake))
 }
 
@@ -159,8 +160,8 @@ fn no_later(d: Device) -> bool
     ensures { λ r. ⌜ r ≡ noLater d ⌝ }
 {
     !settings::later_config(wide(d.config))
-        & !later_port(d.patterns[0])
-        & !later_port(d.patterns[1])
+        & !later_port(d.version, d.patterns[0])
+        & !later_port(d.version, d.patterns[1])
         & !settings::later_counter_mode(wide(d.counters[0].mode))
         & !settings::later_counter_mode(wide(d.counters[1].mode))
         & !settings::later_counter_mode(wide(d.counters[2].mode))
@@ -175,10 +176,17 @@ fn reset_only(d: Device) -> bool
     true
 }
 
+fn sound_version(d: Device) -> bool
+    ensures { λ r. ⌜ r ≡ soundVersion d ⌝ }
+{
+    (d.version == 1) | (d.version == 2)
+}
+
 pub fn sound(d: Device) -> bool
     ensures { λ r. ⌜ r ≡ soundOf d ⌝ }
 {
-    no_later(d)
+    sound_version(d)
+        & no_later(d)
         & sound_sources(d)
         & sound_counters(d)
         & sound_ports(d)

@@ -5,7 +5,7 @@ use mathlib.Core.Bool.{Bool, true, false, not, _&&_, _||_, cond}
 use lib.Dec.{eqb}
 use Rattle.basics.specs.Signs.{if_then_else_, _==_}
 use Rattle.basics.specs.Byte.{bit, rises}
-use Rattle.rules.specs.With.{withCount, withFrozen, withRcc, withGcb, withCip, withHalf}
+use Rattle.rules.specs.With.{withCount, withFrozen, withRcc, withGcb, withCip, withHalf, withPulse}
 use Rattle.rules.specs.declared.Counter.{Counter}
 use Rattle.rules.specs.declared.Counted.{Counted}
 use Rattle.rules.specs.declared.Link.{Link}
@@ -38,9 +38,9 @@ square c = c .mode % 4 == 2
 unfoldable pub takes : Bool → Counter → Bool
 takes enabled c = enabled && (not (c .cip) || retrigger c)
 
--- "count = time constant, CIP = 1, first half"
+-- "count = time constant, CIP = 1, first half"; the pulse is high "until a triggered load"
 unfoldable pub loaded : Counter → Counter
-loaded c = withHalf (withCip (withCount c (c .constant)) true) false
+loaded c = withPulse (withHalf (withCip (withCount c (c .constant)) true) false) false
 
 -- "one less modulo 65,536, so time constant 0 means 65,536", over the modulus
 abbrev pub lessOne : ℕ → ℕ → ℕ
@@ -54,15 +54,23 @@ terminalOf c =
     if continuous c then withHalf (withCount c (c .constant)) false else
     withHalf (withCip (withCount c 0) false) false
 
--- "The count becomes one less modulo 65,536": one count, and whether it was terminal
-unfoldable pub countOf : Counter → Counted
-countOf c =
-    if lessOne 65536 (c .count) == 0 then record { counter = terminalOf c; terminal = true }
-    else record { counter = withCount c (lessOne 65536 (c .count)); terminal = false }
+-- "The count becomes one less modulo 65,536": one count, and whether it was terminal. Paper 02, W-205: the pulse is "high from a
+-- terminal count until the counter's next count clock .. that isn't itself terminal", in version 2.
+unfoldable pub countOf : ℕ → Counter → Counted
+countOf version c =
+    if lessOne 65536 (c .count) == 0 then record { counter = withPulse (terminalOf c) (version == 2); terminal = true }
+    else record { counter = withPulse (withCount c (lessOne 65536 (c .count))) false; terminal = false }
 
--- "Output: pulse = CIP and count 1; one-shot = CIP; square = CIP and second half."
-unfoldable pub outputOf : Counter → Bool
-outputOf c = c .cip && (if c .mode % 4 == 0 then c .count == 1 else if c .mode % 4 == 1 then true else c .half)
+-- in version 1 "pulse = CIP and count 1"; in version 2 the pulse bit, "running or stopped"
+unfoldable pub pulseOf : ℕ → Counter → Bool
+pulseOf version c = if version == 1 then c .cip && c .count == 1 else c .pulse
+
+-- "Output: .. one-shot = CIP; square = CIP and second half."
+unfoldable pub outputOf : ℕ → Counter → Bool
+outputOf version c =
+    if c .mode % 4 == 0 then pulseOf version c else
+    if c .mode % 4 == 1 then c .cip else
+    c .cip && c .half
 
 -- LC 00, and what reaches the counters 1 and 3: nothing of a link
 abbrev pub unlinked : Link
@@ -90,15 +98,20 @@ reachOf c link timer were are =
       count = if link .only then link .count else if countInput c then rises (bit were 1) (bit are 1) else timer;
     }
 
--- "A count happens when enabled, CIP = 1, GCB = 1, the enabled gate line is 1, and" a count reaches it
-unfoldable pub counts : Bool → Reach → Counter → Bool
-counts enabled reach c = enabled && c .cip && c .gcb && reach .gate && reach .count
+-- W-205: a "count clock with GCB, gate line and link gate open"
+unfoldable pub clocks : Bool → Reach → Counter → Bool
+clocks enabled reach c = enabled && c .gcb && reach .gate && reach .count
 
--- a counter's turn in a step; "A load replaces a decrement."
-unfoldable pub turnOf : Bool → Reach → Counter → Counted
-turnOf enabled reach c =
+-- what such a clock does: "A count happens when .. CIP = 1"; one that is stopped only ends its pulse
+unfoldable pub clockedBy : ℕ → Counter → Counted
+clockedBy version c = if c .cip then countOf version c else record { counter = withPulse c false; terminal = false }
+
+-- a counter's turn in a step; "A load replaces a decrement." "A count happens when enabled, .. GCB = 1, the enabled gate line is 1, and"
+-- a count reaches it
+unfoldable pub turnOf : ℕ → Bool → Reach → Counter → Counted
+turnOf version enabled reach c =
     if reach .trigger && takes enabled c then record { counter = loaded c; terminal = false } else
-    if counts enabled reach c then countOf c else
+    if clocks enabled reach c then clockedBy version c else
     record { counter = c; terminal = false }
 
 -- ---- a write of a counter's command: "One write acts as command, GCB, RCC, trigger."
@@ -122,6 +135,6 @@ thawed c = withFrozen (withRcc c false) 0
 unfoldable pub shown : Counter → ℕ
 shown c = if c .rcc then c .frozen else c .count
 
--- "Clearing an enable clears CIP and half, and keeps the count."
+-- "Clearing an enable clears CIP and half, and keeps the count."; the pulse is high "until .. a cleared enable"
 unfoldable pub enabledBy : Bool → Counter → Counter
-enabledBy v c = if v then c else withHalf (withCip c false) false
+enabledBy v c = if v then c else withPulse (withHalf (withCip c false) false) false

@@ -77,9 +77,9 @@ specialAt d p =
 abbrev pub effectiveAt : Device → ℕ → Port
 effectiveAt d p = withSpecial (withDirection (portAt d p) (directionAt d p)) (specialAt d p)
 
--- "An enabled output stands, unstored, for the data bit": the byte x with c's output at Dk
-unfoldable pub standing : Counter → ℕ → ℕ → ℕ
-standing c k x = byteOf (λ j. if j == k && outputEnabled c then outputOf c else bit x j)
+-- "An enabled output stands, unstored, for the data bit": the byte x with the output of c at Dk
+unfoldable pub standing : ℕ → Counter → ℕ → ℕ → ℕ
+standing version c k x = byteOf (λ j. if j == k && outputEnabled c then outputOf version c else bit x j)
 
 -- the byte x of Port C with the ready lines in their places
 unfoldable pub lined : Device → ℕ → ℕ
@@ -90,8 +90,8 @@ lined d x = byteOf (λ k. if isLine d k && k % 2 == 1 then readyAt d (1 - k / 2)
 unfoldable pub valueAt : Device → ℕ → ℕ
 valueAt d p =
     if p == 0 then portAt d p .output else
-    if p == 1 then standing (counterAt d 0) 4 (standing (counterAt d 1) 0 (portAt d p .output)) else
-    lined d (standing (counterAt d 2) 0 (portAt d p .output))
+    if p == 1 then standing (d .version) (counterAt d 0) 4 (standing (d .version) (counterAt d 1) 0 (portAt d p .output)) else
+    lined d (standing (d .version) (counterAt d 2) 0 (portAt d p .output))
 
 unfoldable pub pinsAt : Device → ℕ → ℕ
 pinsAt d p = pinsOf (portEnabled d p) (effectiveAt d p) (valueAt d p)

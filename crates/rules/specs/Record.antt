@@ -5,6 +5,7 @@ use mathlib.Core.Bool.{Bool, true, false}
 use mathlib.Core.List.{List, [], _∷_}
 use mathlib.Core.Path.{_≡_}
 use lib.ListN.{length, getD}
+use Rattle.basics.specs.Signs.{if_then_else_, _==_}
 use Rattle.rules.specs.declared.Source.{Source}
 use Rattle.rules.specs.declared.Counter.{Counter}
 use Rattle.rules.specs.declared.Port.{Port}
@@ -13,9 +14,9 @@ use Rattle.rules.specs.declared.Transfer.{Transfer}
 use Rattle.rules.specs.declared.Device.{Device}
 use Rattle.rules.specs.With.{transfer, device}
 
--- "the 84 and the 48 are named once, with the device"
-abbrev pub imageLen : ℕ
-imageLen = 84
+-- "the 84 and the 48 are named once, with the device". Paper 02, W-205: of version 2 "The whole is 96 bytes."
+unfoldable pub imageLen : ℕ → ℕ
+imageLen version = if version == 1 then 84 else 96
 
 abbrev pub registerCount : ℕ
 registerCount = 48
@@ -25,7 +26,7 @@ abbrev pub quiet : Source
 quiet = record { ius = false; ie = false; ip = false; err = false; hidden = false }
 
 abbrev pub idle : Counter
-idle = record { mode = 0; constant = 0; count = 0; frozen = 0; rcc = false; gcb = false; cip = false; half = false }
+idle = record { mode = 0; constant = 0; count = 0; frozen = 0; rcc = false; gcb = false; cip = false; half = false; pulse = false }
 
 abbrev pub bare : ℕ → Port
 bare levels = record { polarity = 0; direction = 0; special = 0; output = 0; outside = levels; catcher = 0 }
@@ -64,18 +65,18 @@ abbrev pub ofCounter : ℕ → ℕ
 ofCounter i = 4 - 2 * i
 
 -- "Reset (X, or D0 written 1 to 00): register 00 is 01H, all else 0, clock phase 0; outside pins and IEI stay.":
--- with these outside levels and this IEI
-abbrev pub resetTo : ℕ → ℕ → ℕ → Bool → Device
-resetTo a b c v =
-    device 0x01 0x00 (0 ∷ 0 ∷ 0 ∷ []) (bare a ∷ bare b ∷ bare c ∷ []) (blank ∷ blank ∷ []) (vacant ∷ vacant ∷ []) (idle ∷ idle ∷ idle ∷ [])
+-- with these outside levels and this IEI. Paper 02, W-205: "a reset keeps the version".
+abbrev pub resetTo : ℕ → ℕ → ℕ → ℕ → Bool → Device
+resetTo n a b c v =
+    device n 0x01 0x00 (0 ∷ 0 ∷ 0 ∷ []) (bare a ∷ bare b ∷ bare c ∷ []) (blank ∷ blank ∷ []) (vacant ∷ vacant ∷ []) (idle ∷ idle ∷ idle ∷ [])
     (quiet ∷ quiet ∷ quiet ∷ quiet ∷ quiet ∷ []) v false
 
 unfoldable pub resetOf : Device → Device
-resetOf d = resetTo (portAt d 0 .outside) (portAt d 1 .outside) (portAt d 2 .outside) (d .iei)
+resetOf d = resetTo (d .version) (portAt d 0 .outside) (portAt d 1 .outside) (portAt d 2 .outside) (d .iei)
 
--- "The fresh device (reset, outside pins 0, IEI 1)"
+-- "The fresh device (reset, outside pins 0, IEI 1)"; "fresh devices follow the new rule"
 abbrev pub freshOf : Device
-freshOf = resetTo 0 0 0 true
+freshOf = resetTo 2 0 0 0 true
 
 -- ---- the records that there are: the arrays have the lengths that the struct gives them
 pub record Shaped (d : Device) : Type 0 where

@@ -96,9 +96,10 @@ kept p b = if p == 2 then b % 16 else b
 unfoldable pub readOnly : ℕ → Bool
 readOnly a = within 0x10 0x15 a || a == 0x1F
 
--- "20H/28H with D7-D6 not 00, D2-D1 = 11 or D0 = 1". Paper 02, W-203: "Code 4 no longer covers D7-D6 = 01."
-unfoldable pub laterPortMode : ℕ → Bool
-laterPortMode b = ltb 1 (b / 64) || b / 2 % 4 == 3 || bit b 0
+-- "20H/28H with D7-D6 not 00, D2-D1 = 11 or D0 = 1". Paper 02, W-203: "Code 4 no longer covers D7-D6 = 01."; W-205: "A
+-- version 1 device refuses handshake settings with 4."
+unfoldable pub laterPortMode : ℕ → ℕ → Bool
+laterPortMode version b = ltb (if version == 1 then 0 else 1) (b / 64) || b / 2 % 4 == 3 || bit b 0
 
 -- "It now covers a handshake port with D3-D1 not 000, with ITB and SB, or whose register 21H or 29H has D7-D6 = 10 or 11 (Pulsed,
 -- 3-Wire) or D5-D3 not 000 (REQUEST/WAIT)": of the bytes of both registers
@@ -120,7 +121,7 @@ portOf a = if ltb a 0x28 then 0 else 1
 -- 4: "Code 4 is for" those: the byte b to address a of the device d; of a handshake port "whichever register is written last"
 unfoldable pub later : Device → ℕ → ℕ → Bool
 later d a b =
-    ((a == 0x20 || a == 0x28) && (laterPortMode b || laterHandshake b (patternAt d (portOf a) .handshake)))
+    ((a == 0x20 || a == 0x28) && (laterPortMode (d .version) b || laterHandshake b (patternAt d (portOf a) .handshake)))
     || ((a == 0x21 || a == 0x29) && laterHandshake (patternAt d (portOf a) .mode) b)
     || (a == 0x01 && laterConfig b) || (within 0x1C 0x1E a && laterCounterMode b)
 

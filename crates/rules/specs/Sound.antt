@@ -27,13 +27,13 @@ fourBits q =
     ltb (q .polarity) 16 && ltb (q .direction) 16 && ltb (q .special) 16 && ltb (q .output) 16 && ltb (q .outside) 16 && ltb (q .catcher) 16
 
 -- "no code 4 setting"
-abbrev pub laterPort : Pattern → Bool
-laterPort q = laterPortMode (q .mode) || laterHandshake (q .mode) (q .handshake)
+abbrev pub laterPort : ℕ → Pattern → Bool
+laterPort version q = laterPortMode version (q .mode) || laterHandshake (q .mode) (q .handshake)
 
 unfoldable pub noLater : Device → Bool
 noLater d =
     not (laterConfig (d .config))
-    && not (laterPort (patternAt d 0)) && not (laterPort (patternAt d 1))
+    && not (laterPort (d .version) (patternAt d 0)) && not (laterPort (d .version) (patternAt d 1))
     && not (laterCounterMode (counterAt d 0 .mode)) && not (laterCounterMode (counterAt d 1 .mode)) && not (laterCounterMode (counterAt d 2 .mode))
 
 -- "ERR only with IP"
@@ -59,8 +59,12 @@ halfOnly c = only (c .half) (c .cip)
 unfoldable pub frozenOnly : Counter → Bool
 frozenOnly c = only (not (c .rcc)) (c .frozen == 0)
 
-unfoldable pub soundCounter : Bool → Counter → Bool
-soundCounter enabled c = cipOnly enabled c && halfOnly c && frozenOnly c
+-- paper 02, W-205: "a pulse bit, sound only in version 2 and while the counter is enabled"
+unfoldable pub pulseOnly : ℕ → Bool → Counter → Bool
+pulseOnly version enabled c = only (c .pulse) (version == 2 && enabled)
+
+unfoldable pub soundCounter : ℕ → Bool → Counter → Bool
+soundCounter version enabled c = cipOnly enabled c && halfOnly c && frozenOnly c && pulseOnly version enabled c
 
 -- "catchers only where allowed"
 unfoldable pub catcherOnly : Bool → Port → Bool
@@ -113,7 +117,7 @@ sameSource s t =
 unfoldable pub sameCounter : Counter → Counter → Bool
 sameCounter c e =
     c .mode == e .mode && c .constant == e .constant && c .count == e .count && c .frozen == e .frozen
-    && Bool·beq (c .rcc) (e .rcc) && Bool·beq (c .gcb) (e .gcb) && Bool·beq (c .cip) (e .cip) && Bool·beq (c .half) (e .half)
+    && Bool·beq (c .rcc) (e .rcc) && Bool·beq (c .gcb) (e .gcb) && Bool·beq (c .cip) (e .cip) && Bool·beq (c .half) (e .half) && Bool·beq (c .pulse) (e .pulse)
 
 unfoldable pub samePort : Port → Port → Bool
 samePort q r =
@@ -125,7 +129,7 @@ samePattern q r =
     q .mode == r .mode && q .handshake == r .handshake && q .polarity == r .polarity
     && q .transition == r .transition && q .mask == r .mask && Bool·beq (q .ioe) (r .ioe) && Bool·beq (q .pmf) (r .pmf)
 
--- at every place of their arrays
+-- two devices, part by part
 unfoldable pub sameSources : Device → Device → Bool
 sameSources d e =
     sameSource (sourceAt d 0) (sourceAt e 0) && sameSource (sourceAt d 1) (sourceAt e 1) && sameSource (sourceAt d 2) (sourceAt e 2)
@@ -151,7 +155,7 @@ sameVectors d e =
 
 unfoldable pub sameOf : Device → Device → Bool
 sameOf d e =
-    d .master == e .master && d .config == e .config && sameVectors d e && samePorts d e && samePatterns d e
+    d .version == e .version && d .master == e .master && d .config == e .config && sameVectors d e && samePorts d e && samePatterns d e
     && sameTransfers d e && sameCounters d e && sameSources d e && Bool·beq (d .iei) (e .iei) && Bool·beq (d .phase) (e .phase)
 
 -- "under RESET all as reset leaves it"
@@ -165,7 +169,7 @@ soundSources d =
 
 unfoldable pub soundCounters : Device → Bool
 soundCounters d =
-    soundCounter (counterEnabled d 0) (counterAt d 0) && soundCounter (counterEnabled d 1) (counterAt d 1) && soundCounter (counterEnabled d 2) (counterAt d 2)
+    soundCounter (d .version) (counterEnabled d 0) (counterAt d 0) && soundCounter (d .version) (counterEnabled d 1) (counterAt d 1) && soundCounter (d .version) (counterEnabled d 2) (counterAt d 2)
 
 unfoldable pub soundPortAt : Device → ℕ → Bool
 soundPortAt d p = soundPort (portEnabled d p) (effectiveAt d p) (pathAt d p)
@@ -182,5 +186,9 @@ soundTransferAt d p = soundTransfer (portEnabled d p) (patternAt d p) (sourceAt 
 unfoldable pub soundTransfers : Device → Bool
 soundTransfers d = soundTransferAt d 0 && soundTransferAt d 1
 
+-- paper 02, W-205: a device is of version 1 or 2
+unfoldable pub soundVersion : Device → Bool
+soundVersion d = d .version == 1 || d .version == 2
+
 unfoldable pub soundOf : Device → Bool
-soundOf d = noLater d && soundSources d && soundCounters d && soundPorts d && soundPatterns d && soundTransfers d && resetOnly d
+soundOf d = soundVersion d && noLater d && soundSources d && soundCounters d && soundPorts d && soundPatterns d && soundTransfers d && resetOnly d

@@ -43,7 +43,7 @@ turned d i r =
 -- (b), (c), (d): the turn of counter i in the device d; "edges compare before the step with after (a)"
 unfoldable pub counterTurn : Link → Bool → ℕ → ℕ → ℕ → Device → Turned
 counterTurn link timer were are i d =
-    turned d i (turnOf (counterEnabled d i) (reachOf (counterAt d i) link timer were are) (counterAt d i))
+    turned d i (turnOf (d .version) (counterEnabled d i) (reachOf (counterAt d i) link timer were are) (counterAt d i))
 
 -- (e): the catchers of port p, and of all
 unfoldable pub caughtAt : Device → ℕ → Port
@@ -70,7 +70,7 @@ settled beforeA beforeB d = patternTurn 1 beforeB (patternTurn 0 beforeA (catche
 unfoldable pub stepOf : Bool → Device → Device → Stepped
 stepOf timer d0 d1 =
     let b = counterTurn unlinked timer (linesAt d0 0) (linesAt d1 0) 0 d1 in
-    let link = linkOf (lc d1) (outputOf (counterAt d0 0)) (outputOf (counterAt (b .device) 0)) in
+    let link = linkOf (lc d1) (outputOf (d0 .version) (counterAt d0 0)) (outputOf (d1 .version) (counterAt (b .device) 0)) in
     let c = counterTurn link timer (linesAt d0 1) (linesAt d1 1) 1 (b .device) in
     let d = counterTurn unlinked timer (linesAt d0 2) (linesAt d1 2) 2 (c .device) in
     record {

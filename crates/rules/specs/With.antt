@@ -29,32 +29,35 @@ abbrev pub withHidden : Source → Bool → Source
 withHidden s v = record { ius = s .ius; ie = s .ie; ip = s .ip; err = s .err; hidden = v }
 
 -- ---- a counter, of its parts in the struct's order
-abbrev counter : ℕ → ℕ → ℕ → ℕ → Bool → Bool → Bool → Bool → Counter
-counter m t n f r g c h = record { mode = m; constant = t; count = n; frozen = f; rcc = r; gcb = g; cip = c; half = h }
+abbrev counter : ℕ → ℕ → ℕ → ℕ → Bool → Bool → Bool → Bool → Bool → Counter
+counter m t n f r g c h p = record { mode = m; constant = t; count = n; frozen = f; rcc = r; gcb = g; cip = c; half = h; pulse = p }
 
 abbrev pub withMode : Counter → ℕ → Counter
-withMode c v = counter v (c .constant) (c .count) (c .frozen) (c .rcc) (c .gcb) (c .cip) (c .half)
+withMode c v = counter v (c .constant) (c .count) (c .frozen) (c .rcc) (c .gcb) (c .cip) (c .half) (c .pulse)
 
 abbrev pub withConstant : Counter → ℕ → Counter
-withConstant c v = counter (c .mode) v (c .count) (c .frozen) (c .rcc) (c .gcb) (c .cip) (c .half)
+withConstant c v = counter (c .mode) v (c .count) (c .frozen) (c .rcc) (c .gcb) (c .cip) (c .half) (c .pulse)
 
 abbrev pub withCount : Counter → ℕ → Counter
-withCount c v = counter (c .mode) (c .constant) v (c .frozen) (c .rcc) (c .gcb) (c .cip) (c .half)
+withCount c v = counter (c .mode) (c .constant) v (c .frozen) (c .rcc) (c .gcb) (c .cip) (c .half) (c .pulse)
 
 abbrev pub withFrozen : Counter → ℕ → Counter
-withFrozen c v = counter (c .mode) (c .constant) (c .count) v (c .rcc) (c .gcb) (c .cip) (c .half)
+withFrozen c v = counter (c .mode) (c .constant) (c .count) v (c .rcc) (c .gcb) (c .cip) (c .half) (c .pulse)
 
 abbrev pub withRcc : Counter → Bool → Counter
-withRcc c v = counter (c .mode) (c .constant) (c .count) (c .frozen) v (c .gcb) (c .cip) (c .half)
+withRcc c v = counter (c .mode) (c .constant) (c .count) (c .frozen) v (c .gcb) (c .cip) (c .half) (c .pulse)
 
 abbrev pub withGcb : Counter → Bool → Counter
-withGcb c v = counter (c .mode) (c .constant) (c .count) (c .frozen) (c .rcc) v (c .cip) (c .half)
+withGcb c v = counter (c .mode) (c .constant) (c .count) (c .frozen) (c .rcc) v (c .cip) (c .half) (c .pulse)
 
 abbrev pub withCip : Counter → Bool → Counter
-withCip c v = counter (c .mode) (c .constant) (c .count) (c .frozen) (c .rcc) (c .gcb) v (c .half)
+withCip c v = counter (c .mode) (c .constant) (c .count) (c .frozen) (c .rcc) (c .gcb) v (c .half) (c .pulse)
 
 abbrev pub withHalf : Counter → Bool → Counter
-withHalf c v = counter (c .mode) (c .constant) (c .count) (c .frozen) (c .rcc) (c .gcb) (c .cip) v
+withHalf c v = counter (c .mode) (c .constant) (c .count) (c .frozen) (c .rcc) (c .gcb) (c .cip) v (c .pulse)
+
+abbrev pub withPulse : Counter → Bool → Counter
+withPulse c v = counter (c .mode) (c .constant) (c .count) (c .frozen) (c .rcc) (c .gcb) (c .cip) (c .half) v
 
 -- ---- a port's data
 abbrev port : ℕ → ℕ → ℕ → ℕ → ℕ → ℕ → Port
@@ -114,9 +117,10 @@ abbrev pub withPair : Transfer → Bool → Transfer
 withPair t v = transfer (t .front) (t .behind) (t .bytes) (t .unfinished) v
 
 -- ---- the device, of its parts in the struct's order
-abbrev pub device : ℕ → ℕ → List ℕ → List Port → List Pattern → List Transfer → List Counter → List Source → Bool → Bool → Device
-device m f vs qs ps ts cs ss i h =
+abbrev pub device : ℕ → ℕ → ℕ → List ℕ → List Port → List Pattern → List Transfer → List Counter → List Source → Bool → Bool → Device
+device n m f vs qs ps ts cs ss i h =
     record {
+      version = n;
       master = m;
       config = f;
       vectors = vs;
@@ -130,35 +134,35 @@ device m f vs qs ps ts cs ss i h =
     }
 
 abbrev pub withMaster : Device → ℕ → Device
-withMaster d v = device v (d .config) (d .vectors) (d .ports) (d .patterns) (d .transfers) (d .counters) (d .sources) (d .iei) (d .phase)
+withMaster d v = device (d .version) v (d .config) (d .vectors) (d .ports) (d .patterns) (d .transfers) (d .counters) (d .sources) (d .iei) (d .phase)
 
 abbrev pub withConfig : Device → ℕ → Device
-withConfig d v = device (d .master) v (d .vectors) (d .ports) (d .patterns) (d .transfers) (d .counters) (d .sources) (d .iei) (d .phase)
+withConfig d v = device (d .version) (d .master) v (d .vectors) (d .ports) (d .patterns) (d .transfers) (d .counters) (d .sources) (d .iei) (d .phase)
 
 abbrev pub withVectors : Device → List ℕ → Device
-withVectors d v = device (d .master) (d .config) v (d .ports) (d .patterns) (d .transfers) (d .counters) (d .sources) (d .iei) (d .phase)
+withVectors d v = device (d .version) (d .master) (d .config) v (d .ports) (d .patterns) (d .transfers) (d .counters) (d .sources) (d .iei) (d .phase)
 
 abbrev pub withPorts : Device → List Port → Device
-withPorts d v = device (d .master) (d .config) (d .vectors) v (d .patterns) (d .transfers) (d .counters) (d .sources) (d .iei) (d .phase)
+withPorts d v = device (d .version) (d .master) (d .config) (d .vectors) v (d .patterns) (d .transfers) (d .counters) (d .sources) (d .iei) (d .phase)
 
 abbrev pub withPatterns : Device → List Pattern → Device
-withPatterns d v = device (d .master) (d .config) (d .vectors) (d .ports) v (d .transfers) (d .counters) (d .sources) (d .iei) (d .phase)
+withPatterns d v = device (d .version) (d .master) (d .config) (d .vectors) (d .ports) v (d .transfers) (d .counters) (d .sources) (d .iei) (d .phase)
 
--- what the ports hold, the counters, the sources, IEI and the phase
 abbrev pub withTransfers : Device → List Transfer → Device
-withTransfers d v = device (d .master) (d .config) (d .vectors) (d .ports) (d .patterns) v (d .counters) (d .sources) (d .iei) (d .phase)
+withTransfers d v = device (d .version) (d .master) (d .config) (d .vectors) (d .ports) (d .patterns) v (d .counters) (d .sources) (d .iei) (d .phase)
 
+-- its counters, its sources, IEI and the clock phase
 abbrev pub withCounters : Device → List Counter → Device
-withCounters d v = device (d .master) (d .config) (d .vectors) (d .ports) (d .patterns) (d .transfers) v (d .sources) (d .iei) (d .phase)
+withCounters d v = device (d .version) (d .master) (d .config) (d .vectors) (d .ports) (d .patterns) (d .transfers) v (d .sources) (d .iei) (d .phase)
 
 abbrev pub withSources : Device → List Source → Device
-withSources d v = device (d .master) (d .config) (d .vectors) (d .ports) (d .patterns) (d .transfers) (d .counters) v (d .iei) (d .phase)
+withSources d v = device (d .version) (d .master) (d .config) (d .vectors) (d .ports) (d .patterns) (d .transfers) (d .counters) v (d .iei) (d .phase)
 
 abbrev pub withIei : Device → Bool → Device
-withIei d v = device (d .master) (d .config) (d .vectors) (d .ports) (d .patterns) (d .transfers) (d .counters) (d .sources) v (d .phase)
+withIei d v = device (d .version) (d .master) (d .config) (d .vectors) (d .ports) (d .patterns) (d .transfers) (d .counters) (d .sources) v (d .phase)
 
 abbrev pub withPhase : Device → Bool → Device
-withPhase d v = device (d .master) (d .config) (d .vectors) (d .ports) (d .patterns) (d .transfers) (d .counters) (d .sources) (d .iei) v
+withPhase d v = device (d .version) (d .master) (d .config) (d .vectors) (d .ports) (d .patterns) (d .transfers) (d .counters) (d .sources) (d .iei) v
 
 -- ---- one part of an array, by its place
 abbrev pub withVector : Device → ℕ → ℕ → Device

@@ -41,7 +41,7 @@ impl Source {
     }
 }
 
-// One of the three counter/timers. `frozen` is what 10H-15H read while RCC is 1.
+// One of the three counter/timers. `frozen` is what 10H-15H read while RCC is 1; `pulse` stands from a terminal on.
 pub struct Counter {
     pub mode: u8,
     pub constant: u16,
@@ -51,6 +51,7 @@ pub struct Counter {
     pub gcb: bool,
     pub cip: bool,
     pub half: bool,
+    pub pulse: bool,
 }
 
 // The data of one of the ports A, B and C: three settings, the output register, the outside levels, the catchers.
@@ -84,9 +85,10 @@ pub struct Transfer {
     pub pair: bool,
 }
 
-// The device. `vectors` are A, B, CT; `ports` A, B, C; `patterns` and `transfers` A, B; `counters` 1, 2, 3;
+// The device. `version` is 1 or 2, of its pulse and its image; `vectors` are A, B, CT; `ports` A, B, C; `patterns` and `transfers` A, B; `counters` 1, 2, 3;
 // `sources` stand in their order of priority: CT3, A, CT2, B, CT1.
 pub struct Device {
+    pub version: u8,
     pub master: u8,
     pub config: u8,
     pub vectors: [u8; 3],
@@ -100,7 +102,10 @@ pub struct Device {
 }
 
 impl Device {
-    pub const IMAGE_LEN: usize = 84;
+    // How long the images of versions 1 and 2 are.
+    pub const OLD_IMAGE: usize = 84;
+
+    pub const IMAGE: usize = 96;
 
     pub const REGISTERS: usize = 48;
 
@@ -141,6 +146,7 @@ impl Device {
             gcb: false,
             cip: false,
             half: false,
+            pulse: false,
         };
         let source = Source {
             ius: false,
@@ -150,6 +156,7 @@ impl Device {
             hidden: false,
         };
         Device {
+            version: 2,
             master: 1,
             config: 0,
             vectors: [0; 3],
@@ -163,12 +170,18 @@ impl Device {
         }
     }
 
-    // The constants' values, for those who know them by the definitions.
-    pub fn image_len() -> usize
-        ensures { λ r. ⌜ r ≡ imageLen ⌝ }
+    // How long the image of a version is.
+    pub fn image_len(version: u8) -> usize
+        ensures { λ r. ⌜ r ≡ imageLen version ⌝ }
     {
-        Device::IMAGE_LEN
+        if version == 1 {
+            Device::OLD_IMAGE
+        } else {
+            Device::IMAGE
+        }
     }
+
+    // The constant's value, for those who know it by the definition.
 
     pub fn registers() -> usize
         ensures { λ r. ⌜ r ≡ registerCount ⌝ }

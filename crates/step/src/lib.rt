@@ -106,7 +106,15 @@ fn counter_turn(k: Link, timer: bool, d0: Device, d1: Device, i: usize, d: Devic
 {
     let c = d.counters[i];
     let enabled = levels::counter_on(d.config, i);
-    let r = counters::turn(enabled, c, k, timer, lines_at(d0, i), lines_at(d1, i));
+    let r = counters::turn(
+        d.version,
+        enabled,
+        c,
+        k,
+        timer,
+        lines_at(d0, i),
+        lines_at(d1, i),
+    );
     turned_by(d, i, r)
 }
 
@@ -123,18 +131,18 @@ fn link(lc: u8, before: bool, after: bool) -> Link
     }
 }
 
-fn ct1_output(d: Device) -> bool
-    ensures { λ r. ⌜ r ≡ outputOf (counterAt d 0) ⌝ }
+fn ct1_output(version: u8, d: Device) -> bool
+    ensures { λ r. ⌜ r ≡ outputOf version (counterAt d 0) ⌝ }
 {
-    counters::output(d.counters[0])
+    counters::output(version, d.counters[0])
 }
 
 // The link of the device d1 after (a), from CT1 in the records d0 before the step and b after (b).
 fn linked(d0: Device, d1: Device, b: Device) -> Link
-    ensures { λ r. ⌜ r ≡ linkOf (lc d1) (outputOf (counterAt d0 0)) (outputOf (counterAt b 0)) ⌝ }
+    ensures { λ r. ⌜ r ≡ linkOf (lc d1) (outputOf (d0 .version) (counterAt d0 0)) (outputOf (d1 .version) (counterAt b 0)) ⌝ }
 {
     let lc = d1.config % 4;
-    link(lc, ct1_output(d0), ct1_output(b))
+    link(lc, ct1_output(d0.version, d0), ct1_output(d1.version, b))
 }
 
 fn caught(enabled: bool, q: Port, path: u8) -> u8

@@ -156,7 +156,7 @@ module _ (d : Device) (e : Event) (z : codeOf d e ≡ 0) where
   pub effect-parts : Sound d → Sound (effectOf d e .device)
   unfolding effectOf pinsEffect clocksEffect acknowledgeEffect ieiEffect
   effect-parts h =
-      by-test (λ (r : Effect). Sound (r .device)) (isX e) _ _ (λ _. reset-sound d (h .base .four .outside))
+      by-test (λ (r : Effect). Sound (r .device)) (isX e) _ _ (λ _. reset-sound d (h .base .version) (h .base .four .outside))
       (λ _.
       by-test (λ (r : Effect). Sound (r .device)) (isW e) _ _ (λ w. write-effect d (e .a) (e .b) h (write-now w))
       (λ _.

@@ -124,9 +124,9 @@ agreed f g c m a =
 -- "whichever register is written last": of a mode with the port's handshake register, of a handshake with its mode
 abbrev pub laterKind : Device → Kind → ℕ → Bool
 laterKind d k b =
-    bySetting (λ p. laterPort (withPortMode (patternAt d p) b)) (λ p. laterHandshake (patternAt d p .mode) b) (laterConfig b) (laterCounterMode b) (settingOf k)
+    bySetting (λ p. laterPort (d .version) (withPortMode (patternAt d p) b)) (λ p. laterHandshake (patternAt d p .mode) b) (laterConfig b) (laterCounterMode b) (settingOf k)
 
 pub later-kind : (d : Device) (a b : ℕ) → later d a b ≡ laterKind d (kindOf a) b
 unfolding later
 later-kind d a b =
-    agreed (λ p. laterPort (withPortMode (patternAt d p) b)) (λ p. laterHandshake (patternAt d p .mode) b) (laterConfig b) (laterCounterMode b) a
+    agreed (λ p. laterPort (d .version) (withPortMode (patternAt d p) b)) (λ p. laterHandshake (patternAt d p .mode) b) (laterConfig b) (laterCounterMode b) a

@@ -19,28 +19,28 @@ use Rattle.rules.specs.PortData.{caughtOf, seenOf, pinsOf, pathOf, directionAt,
 use Rattle.rules.specs.Patterns.{matchOf}
 use Rattle.rules.specs.Interrupts.{fateOf, afterFate}
 use Rattle.rules.specs.Step.{linesAt, eventAt, caughtAt, catchers, matchedBy, patternTurn, settled}
-use Rattle.theorems.proofs.Frame.{event-counters}
+use Rattle.theorems.proofs.Frame.{frame-pattern, event-counters}
 
--- the same modes and outputs
-pub record Alike (l m : List Counter) : Type 0 where
+-- the same modes and outputs, in that version
+pub record Alike (n : ℕ) (l m : List Counter) : Type 0 where
   pub mode : (i : ℕ) → getD m i idle .mode ≡ getD l i idle .mode
-  pub output : (i : ℕ) → outputOf (getD m i idle) ≡ outputOf (getD l i idle)
+  pub output : (i : ℕ) → outputOf n (getD m i idle) ≡ outputOf n (getD l i idle)
 
-standing-alike : (b c : Counter) (k x : ℕ) → b .mode ≡ c .mode → outputOf b ≡ outputOf c → standing b k x ≡ standing c k x
+standing-alike : (n : ℕ) (b c : Counter) (k x : ℕ) → b .mode ≡ c .mode → outputOf n b ≡ outputOf n c → standing n b k x ≡ standing n c k x
 unfolding standing
-standing-alike b c k x m o = simp (m, o)
+standing-alike n b c k x m o = simp (m, o)
 
 abbrev others : Device → List Counter → Device
 others d m = withCounters d m
 
-module _ (d : Device) (m : List Counter) (a : Alike (d .counters) m) where
+module _ (d : Device) (m : List Counter) (a : Alike (d .version) (d .counters) m) where
   value-alike : (p : ℕ) → valueAt (others d m) p ≡ valueAt d p
   unfolding valueAt lined isLine
   value-alike p =
       ap₂ (λ (x y : ℕ). cond (eqb p 0) (portAt d p .output) (cond (eqb p 1) x y))
-      (standing-alike (getD m 0 idle) (counterAt d 0) 4 _ (a .mode 0) (a .output 0)
-      ∙ ap (standing (counterAt d 0) 4) (standing-alike (getD m 1 idle) (counterAt d 1) 0 (portAt d p .output) (a .mode 1) (a .output 1)))
-      (ap (lined d) (standing-alike (getD m 2 idle) (counterAt d 2) 0 (portAt d p .output) (a .mode 2) (a .output 2)))
+      (standing-alike (d .version) (getD m 0 idle) (counterAt d 0) 4 _ (a .mode 0) (a .output 0)
+      ∙ ap (standing (d .version) (counterAt d 0) 4) (standing-alike (d .version) (getD m 1 idle) (counterAt d 1) 0 (portAt d p .output) (a .mode 1) (a .output 1)))
+      (ap (lined d) (standing-alike (d .version) (getD m 2 idle) (counterAt d 2) 0 (portAt d p .output) (a .mode 2) (a .output 2)))
 
   pins-alike : (p : ℕ) → pinsAt (others d m) p ≡ pinsAt d p
   unfolding pinsAt directionAt specialAt isLine
@@ -83,7 +83,7 @@ unfolding matchedBy
 matched-others p matches d m =
     event-others (withPattern d p (withPmf (patternAt d p) matches)) m (ofPort p) (patternAt d p .ioe) (matches && not (patternAt d p .pmf))
 
-pattern-alike : (p before : ℕ) (d : Device) (m : List Counter) → Alike (d .counters) m
+pattern-alike : (p before : ℕ) (d : Device) (m : List Counter) → Alike (d .version) (d .counters) m
     → patternTurn p before (others d m) ≡ others (patternTurn p before d) m
 unfolding patternTurn
 pattern-alike p before d m a =
@@ -94,9 +94,9 @@ pattern-counters : (p before : ℕ) (d : Device) → patternTurn p before d .cou
 unfolding patternTurn matchedBy
 pattern-counters p before d = event-counters _ (ofPort p) _ _
 
-pub settled-alike : (a b : ℕ) (d : Device) (m : List Counter) → Alike (d .counters) m → settled a b (others d m) ≡ others (settled a b d) m
+pub settled-alike : (a b : ℕ) (d : Device) (m : List Counter) → Alike (d .version) (d .counters) m → settled a b (others d m) ≡ others (settled a b d) m
 unfolding settled catchers
 settled-alike a b d m h =
     ap (λ (e : Device). patternTurn 1 b (patternTurn 0 a e)) (catchers-alike d m h)
     ∙ ap (patternTurn 1 b) (pattern-alike 0 a (catchers d) m h)
-    ∙ pattern-alike 1 b (patternTurn 0 a (catchers d)) m (rw (pattern-counters 0 a (catchers d)) h)
+    ∙ pattern-alike 1 b (patternTurn 0 a (catchers d)) m (rw (frame-pattern 0 a (catchers d) .version, pattern-counters 0 a (catchers d)) h)

@@ -11,12 +11,12 @@ use Rattle.rules.specs.declared.Port.{Port}
 use Rattle.rules.specs.Record.{vectorAt, portAt, patternAt, transferAt, counterAt, sourceAt, quiet, idle, bare, blank, vacant, ofPort, resetOf}
 use Rattle.rules.specs.Registers.{reset, portEnabled, counterEnabled, laterConfig, laterCounterMode}
 use Rattle.rules.specs.Sound.{fourBits, laterPort, noLater, soundSource, soundCounter, pmfOnly, soundSources, soundCounters, soundPortAt, soundPorts}
-use Rattle.rules.specs.Sound.{soundPatterns, soundTransferAt, soundTransfers, resetOnly, soundOf, sameSource, sameCounter, samePort, samePattern, sameTransfer}
+use Rattle.rules.specs.Sound.{soundPatterns, soundTransferAt, soundTransfers, resetOnly, soundVersion, soundOf, sameSource, sameCounter, samePort, samePattern, sameTransfer}
 use Rattle.rules.specs.Sound.{sameSources, sameCounters, samePorts, samePatterns, sameTransfers, sameVectors, sameOf}
 use Rattle.basics.proofs.Tabled.{tabled}
 use Rattle.basics.proofs.Tests.{so-both, each, so-not, not-so}
 use Rattle.basics.proofs.Places.{each2, each3, each5}
-use Rattle.theorems.proofs.Equal.{beq-true, beq-refl, same-source, same-counter, same-port, same-pattern, same-transfer}
+use Rattle.theorems.proofs.Equal.{beq-true, beq-refl, eqb-same, same-source, same-counter, same-port, same-pattern, same-transfer}
 use Rattle.theorems.proofs.Equal.{source-same, counter-same, port-same, pattern-same, transfer-same}
 use Rattle.theorems.proofs.Parts.{if-then, only-if, SourceSound, CounterSound, TransferSound, Cleared, Sound}
 use Rattle.theorems.proofs.Parts.{source-sound, sound-source, counter-sound, sound-counter, four-bits, bits-four, transfer-sound, sound-transfer}
@@ -29,22 +29,22 @@ module _ (d : Device) where
       let r = resetOf d in
       let part =
       each
-      (eqb (d .master) 1 ∷ eqb (d .config) 0
+      (eqb (d .version) (d .version) ∷ eqb (d .master) 1 ∷ eqb (d .config) 0
       ∷ sameVectors d r ∷ samePorts d r ∷ samePatterns d r ∷ sameTransfers d r ∷ sameCounters d r ∷ sameSources d r
       ∷ Bool·beq (d .iei) (d .iei) ∷ Bool·beq (d .phase) false ∷ [])
       h in
-      let vector = each (eqb (vectorAt d 0) 0 ∷ eqb (vectorAt d 1) 0 ∷ eqb (vectorAt d 2) 0 ∷ []) (part 2) in
-      let port = each (samePort (portAt d 0) (portAt r 0) ∷ samePort (portAt d 1) (portAt r 1) ∷ samePort (portAt d 2) (portAt r 2) ∷ []) (part 3) in
-      let pattern = each (samePattern (patternAt d 0) blank ∷ samePattern (patternAt d 1) blank ∷ []) (part 4) in
-      let transfer = each (sameTransfer (transferAt d 0) vacant ∷ sameTransfer (transferAt d 1) vacant ∷ []) (part 5) in
-      let counter = each (sameCounter (counterAt d 0) idle ∷ sameCounter (counterAt d 1) idle ∷ sameCounter (counterAt d 2) idle ∷ []) (part 6) in
+      let vector = each (eqb (vectorAt d 0) 0 ∷ eqb (vectorAt d 1) 0 ∷ eqb (vectorAt d 2) 0 ∷ []) (part 3) in
+      let port = each (samePort (portAt d 0) (portAt r 0) ∷ samePort (portAt d 1) (portAt r 1) ∷ samePort (portAt d 2) (portAt r 2) ∷ []) (part 4) in
+      let pattern = each (samePattern (patternAt d 0) blank ∷ samePattern (patternAt d 1) blank ∷ []) (part 5) in
+      let transfer = each (sameTransfer (transferAt d 0) vacant ∷ sameTransfer (transferAt d 1) vacant ∷ []) (part 6) in
+      let counter = each (sameCounter (counterAt d 0) idle ∷ sameCounter (counterAt d 1) idle ∷ sameCounter (counterAt d 2) idle ∷ []) (part 7) in
       let source =
       each
       (sameSource (sourceAt d 0) quiet ∷ sameSource (sourceAt d 1) quiet ∷ sameSource (sourceAt d 2) quiet ∷ sameSource (sourceAt d 3) quiet ∷ sameSource (sourceAt d 4) quiet ∷ [])
-      (part 7) in
+      (part 8) in
       record {
-        master = eqb-true (d .master) 1 (part 0);
-        config = eqb-true (d .config) 0 (part 1);
+        master = eqb-true (d .master) 1 (part 1);
+        config = eqb-true (d .config) 0 (part 2);
         vectors = each3 (λ v. vectorAt d v ≡ 0) (eqb-true (vectorAt d 0) 0 (vector 0)) (eqb-true (vectorAt d 1) 0 (vector 1)) (eqb-true (vectorAt d 2) 0 (vector 2));
         ports =
             each3 (λ p. portAt d p ≡ bare (portAt d p .outside))
@@ -58,7 +58,7 @@ module _ (d : Device) where
             each5 (λ k. sourceAt d k ≡ quiet)
             (same-source (sourceAt d 0) quiet (source 0)) (same-source (sourceAt d 1) quiet (source 1)) (same-source (sourceAt d 2) quiet (source 2))
             (same-source (sourceAt d 3) quiet (source 3)) (same-source (sourceAt d 4) quiet (source 4));
-        phase = beq-true (d .phase) false (part 9);
+        phase = beq-true (d .phase) false (part 10);
       }
 
   same-as : Cleared d → So (sameOf d (resetOf d))
@@ -74,7 +74,7 @@ module _ (d : Device) where
       (so-both
       (so-both
       (so-both
-      (so-both (eq-eqb (d .master) 1 (h .master)) (eq-eqb (d .config) 0 (h .config)))
+      (so-both (so-both (eqb-same (d .version)) (eq-eqb (d .master) 1 (h .master))) (eq-eqb (d .config) 0 (h .config)))
       (so-both
       (so-both (eq-eqb (vectorAt d 0) 0 (h .vectors 0 (lit< tt))) (eq-eqb (vectorAt d 1) 0 (h .vectors 1 (lit< tt))))
       (eq-eqb (vectorAt d 2) 0 (h .vectors 2 (lit< tt)))))
@@ -88,30 +88,31 @@ module _ (d : Device) where
 
 -- ---- the whole test
 pub sound-parts : (d : Device) → So (soundOf d) → Sound d
-unfolding soundOf noLater soundSources soundCounters soundPorts soundPatterns soundTransfers soundTransferAt resetOnly
+unfolding soundOf soundVersion noLater soundSources soundCounters soundPorts soundPatterns soundTransfers soundTransferAt resetOnly
 sound-parts d h =
-    let part = each (noLater d ∷ soundSources d ∷ soundCounters d ∷ soundPorts d ∷ soundPatterns d ∷ soundTransfers d ∷ resetOnly d ∷ []) h in
+    let part = each (soundVersion d ∷ noLater d ∷ soundSources d ∷ soundCounters d ∷ soundPorts d ∷ soundPatterns d ∷ soundTransfers d ∷ resetOnly d ∷ []) h in
     let mode =
     each
-    (not (laterConfig (d .config)) ∷ not (laterPort (patternAt d 0)) ∷ not (laterPort (patternAt d 1))
+    (not (laterConfig (d .config)) ∷ not (laterPort (d .version) (patternAt d 0)) ∷ not (laterPort (d .version) (patternAt d 1))
     ∷ tabled (λ i. not (laterCounterMode (counterAt d i .mode))) 0 3)
-    (part 0) in
-    let source = each (tabled (λ k. soundSource (sourceAt d k)) 0 5) (part 1) in
-    let counter = each (tabled (λ i. soundCounter (counterEnabled d i) (counterAt d i)) 0 3) (part 2) in
-    let port = each (fourBits (portAt d 2) ∷ soundPortAt d 0 ∷ soundPortAt d 1 ∷ soundPortAt d 2 ∷ []) (part 3) in
-    let pattern = each (pmfOnly (portEnabled d 0) (patternAt d 0) ∷ pmfOnly (portEnabled d 1) (patternAt d 1) ∷ []) (part 4) in
-    let transfer = each (soundTransferAt d 0 ∷ soundTransferAt d 1 ∷ []) (part 5) in
+    (part 1) in
+    let source = each (tabled (λ k. soundSource (sourceAt d k)) 0 5) (part 2) in
+    let counter = each (tabled (λ i. soundCounter (d .version) (counterEnabled d i) (counterAt d i)) 0 3) (part 3) in
+    let port = each (fourBits (portAt d 2) ∷ soundPortAt d 0 ∷ soundPortAt d 1 ∷ soundPortAt d 2 ∷ []) (part 4) in
+    let pattern = each (pmfOnly (portEnabled d 0) (patternAt d 0) ∷ pmfOnly (portEnabled d 1) (patternAt d 1) ∷ []) (part 5) in
+    let transfer = each (soundTransferAt d 0 ∷ soundTransferAt d 1 ∷ []) (part 6) in
     record {
       base =
           record {
+            version = part 0;
             config = not-so (laterConfig (d .config)) (mode 0);
             modes =
-                each2 (λ p. laterPort (patternAt d p) ≡ false) (not-so (laterPort (patternAt d 0)) (mode 1)) (not-so (laterPort (patternAt d 1)) (mode 2));
+                each2 (λ p. laterPort (d .version) (patternAt d p) ≡ false) (not-so (laterPort (d .version) (patternAt d 0)) (mode 1)) (not-so (laterPort (d .version) (patternAt d 1)) (mode 2));
             transfers =
                 each2 (λ p. TransferSound (portEnabled d p) (patternAt d p) (sourceAt d (ofPort p)) (transferAt d p))
                 (transfer-sound (transfer 0)) (transfer-sound (transfer 1));
             counters =
-                each3 (λ i. CounterSound (counterEnabled d i) (counterAt d i))
+                each3 (λ i. CounterSound (d .version) (counterEnabled d i) (counterAt d i))
                 (counter-sound (not-so (laterCounterMode (counterAt d 0 .mode)) (mode 3)) (counter 0))
                 (counter-sound (not-so (laterCounterMode (counterAt d 1 .mode)) (mode 4)) (counter 1))
                 (counter-sound (not-so (laterCounterMode (counterAt d 2 .mode)) (mode 5)) (counter 2));
@@ -119,14 +120,14 @@ sound-parts d h =
                 each5 (λ k. SourceSound (sourceAt d k))
                 (source-sound (source 0)) (source-sound (source 1)) (source-sound (source 2)) (source-sound (source 3)) (source-sound (source 4));
             four = four-bits (port 0);
-            held = λ r. cleared-of d (if-then (reset d) (sameOf d (resetOf d)) (part 6) r);
+            held = λ r. cleared-of d (if-then (reset d) (sameOf d (resetOf d)) (part 7) r);
           };
       ports = each3 (λ p. So (soundPortAt d p)) (port 1) (port 2) (port 3);
       patterns = each2 (λ p. So (pmfOnly (portEnabled d p) (patternAt d p))) (pattern 0) (pattern 1);
     }
 
 pub parts-sound : (d : Device) → Sound d → So (soundOf d)
-unfolding soundOf noLater soundSources soundCounters soundPorts soundPatterns soundTransfers soundTransferAt resetOnly
+unfolding soundOf soundVersion noLater soundSources soundCounters soundPorts soundPatterns soundTransfers soundTransferAt resetOnly
 parts-sound d h =
     let b = h .base in
     so-both
@@ -135,13 +136,12 @@ parts-sound d h =
     (so-both
     (so-both
     (so-both
+    (so-both (b .version)
     (so-both
     (so-both
-    (so-both
-    (so-both (so-both (so-not (b .config)) (so-not (b .modes 0 (lit< tt)))) (so-not (b .modes 1 (lit< tt))))
-    (so-not (b .counters 0 (lit< tt) .mode)))
+    (so-both (so-both (so-both (so-not (b .config)) (so-not (b .modes 0 (lit< tt)))) (so-not (b .modes 1 (lit< tt)))) (so-not (b .counters 0 (lit< tt) .mode)))
     (so-not (b .counters 1 (lit< tt) .mode)))
-    (so-not (b .counters 2 (lit< tt) .mode)))
+    (so-not (b .counters 2 (lit< tt) .mode))))
     (so-both
     (so-both
     (so-both (so-both (sound-source (b .sources 0 (lit< tt))) (sound-source (b .sources 1 (lit< tt)))) (sound-source (b .sources 2 (lit< tt))))

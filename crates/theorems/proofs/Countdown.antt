@@ -2,14 +2,14 @@
 -- Assumes nothing.
 use Prim.Native.Nat.{ℕ, zero, suc, _+_, _-_, _*_, _/_, _%_, _≤_, _<_}
 use mathlib.Core.Path.{_≡_, refl, sym, ap, _∙_}
-use mathlib.Core.Bool.{cond}
+use mathlib.Core.Bool.{_&&_, cond, and-false}
 use mathlib.Core.Logic.{_⊎_, inl, inr, ⊎-elim}
 use native.Mathlib.Nat.{zero-mul, suc-mul, zero-add, eq-or-lt-of-le, mod-eq-of-lt, mod-self, add-mod-right}
 use native.Mathlib.Numerals.{add-one, one-add}
 use native.Mathlib.Omega.{arith}
 use lib.Arith.{digits-div, digits-mod}
-use lib.Dec.{eqb}
-use borrow.Author.Tests.{ne-eqb, lt-ltb, le-ltb}
+use lib.Dec.{eqb, leb}
+use borrow.Author.Tests.{ne-eqb, lt-ltb, le-ltb, lt-leb, le-leb}
 use Rattle.rules.specs.Counters.{lessOne}
 use Rattle.basics.specs.Iterate.{iterate}
 use Rattle.theorems.specs.Free.{fullOf, terminalsAfter, countAfter}
@@ -131,6 +131,35 @@ module _ (m c t : ℕ) (hc : c < m) (ht : t < m) where
       let u : fullOf m t - (fullOf m t - q) ≡ q = omega arith in
       let h : fullOf m c ≤ k = omega arith in
       (simp (le-ltb k (fullOf m c) h, r, u), simp (le-ltb k (fullOf m c) h, v, one-add))
+
+  -- whether one count more is terminal
+  last : (k q p : ℕ) → k + q ≡ fullOf m c + p * fullOf m t → 1 ≤ q → ((p ≡ 0) × (q ≤ fullOf m c)) ⊎ ((1 ≤ p) × (q ≤ fullOf m t))
+      → eqb (q - 1) 0 ≡ (leb (fullOf m c) (suc k) && eqb ((suc k - fullOf m c) % fullOf m t) 0)
+  last k (suc zero) p sum pos b =
+      let h : fullOf m c ≤ suc k = omega arith in
+      let e : suc k - fullOf m c ≡ p * fullOf m t + 0 = omega arith in
+      let r : (suc k - fullOf m c) % fullOf m t ≡ 0 = ap (λ (x : ℕ). x % fullOf m t) e ∙ digits-mod p (full-pos m t ht) in
+      sym (simp (le-leb (fullOf m c) (suc k) h, r))
+  last k (suc (suc q)) zero sum pos b =
+      let z = zero-mul (fullOf m t) in
+      let h : suc k < fullOf m c = omega arith in
+      let e : (suc (suc q) - 1 ≡ 0 → ⊥) = λ x. omega arith in
+      simp (ne-eqb (suc (suc q) - 1) 0 e, lt-leb (fullOf m c) (suc k) h)
+  last k (suc (suc q)) (suc p) sum pos b =
+      let s = suc-mul p (fullOf m t) in
+      let g : suc (suc q) ≤ fullOf m t = ⊎-elim (λ w. omega arith) (λ w. w .1) b in
+      let d : suc k - fullOf m c ≡ p * fullOf m t + (fullOf m t - suc q) = omega arith in
+      let r : (suc k - fullOf m c) % fullOf m t ≡ fullOf m t - suc q = ap (λ (x : ℕ). x % fullOf m t) d ∙ digits-mod p (omega arith) in
+      let e : (suc (suc q) - 1 ≡ 0 → ⊥) = λ x. omega arith in
+      let f : (fullOf m t - suc q ≡ 0 → ⊥) = λ x. omega arith in
+      simp (ne-eqb (suc (suc q) - 1) 0 e, r, ne-eqb (fullOf m t - suc q) 0 f, and-false)
+
+  pub last-by-division : (k : ℕ)
+      → eqb (lessOne m (iterate k (countdown m t) (c, 0) .0)) 0 ≡ (leb (fullOf m c) (suc k) && eqb ((suc k - fullOf m c) % fullOf m t) 0)
+  last-by-division k =
+      let r = reached k in
+      ap (λ (n : ℕ). eqb (lessOne m n) 0) (ap (λ (s : ℕ × ℕ). s .0) (r .state))
+      ∙ ap (λ (n : ℕ). eqb n 0) (less-one m (r .q) (r .pos) (small k _ r)) ∙ last k (r .q) (r .p) (r .sum) (r .pos) (r .bound)
 
   -- k counts by division, "Counts are written modulo" m
   pub counts-by-division : (k : ℕ)

@@ -1,6 +1,6 @@
 -- Paper 01, demand 3: one call for n clocks is n calls for one clock, and every cut gives the same.
--- Each theorem is about the event's own definition, from any record; where it is not sound every T is refused alike. The numbers
--- that T does not use may be any.
+-- Each theorem is about the event's own definition, from any record, under its own version, which T keeps (`Versions.version-kept`);
+-- where it is not sound every T is refused alike. The numbers that T does not use may be any.
 -- Assumes nothing.
 use Prim.Native.Nat.{ℕ, _+_, _<_}
 use mathlib.Core.Path.{_≡_, refl, sym, ap, _∙_}
@@ -21,7 +21,7 @@ use Rattle.rules.specs.Report.{noReport, sums, reportsAdded}
 use Rattle.rules.specs.Step.{ranOf}
 use Rattle.rules.specs.Sound.{soundOf}
 use Rattle.rules.specs.Events.{isT, unknown, noRegister, tooLarge, held, noByte, codeOf, effect, clocksEffect, effectOf, answerOf, unsoundAnswer, outcomeOf, eventOf}
-use Rattle.theorems.specs.Traces.{answersOf, recordAfter, tracedOf, cutBy, atCuts}
+use Rattle.theorems.specs.Traces.{answersOf, recordAfter, tracedOf, cutBy}
 use Rattle.theorems.specs.Ticks.{tick, onlyT, onlyT1, allClocks, onTop, answersAdded, answersAsOne, asOne}
 use Rattle.theorems.specs.Reports.{Fits}
 use Rattle.theorems.specs.Free.{timerClocks}
@@ -116,14 +116,14 @@ unfolding onlyT allClocks
 cut d e f l t h q =
     as-tick d e t ∙ ap (λ (n : ℕ). eventOf d (tick n)) q ∙ cut-by d f l (left (isT f) (onlyT l) h) (right (isT f) (onlyT l) h)
 
--- and so with anything done at any of the cuts that leaves the records at the cuts as they are (a save and its restore)
-pub cut-apart : (f : Device → Device) (test : Device → Bool) → ((d : Device) → Shaped d → test d ≡ true → f d ≡ d)
-    → (d : Device) (e g : Event) (l : List Event) (ls : List (List Event)) → Shaped d → atCuts test d (g ∷ l) ls ≡ true
+-- and so with anything done at any of the cuts that leaves sound records as they are (a save and its restore)
+pub cut-apart : (f : Device → Device) → ((d : Device) → Shaped d → soundOf d ≡ true → f d ≡ d)
+    → (d : Device) (e g : Event) (l : List Event) (ls : List (List Event)) → Shaped d → soundOf d ≡ true
     → So (isT e) → So (onlyT (flatten ((g ∷ l) ∷ ls))) → e .a ≡ allClocks (flatten ((g ∷ l) ∷ ls))
     → eventOf d e ≡ asOne (cutBy f d (g ∷ l) ls)
 unfolding flatten
-cut-apart f test leaves d e g l ls h c t o q =
-    cut d e g (l ++ flatten ls) t o q ∙ ap asOne (sym (unseen f test leaves d (g ∷ l) ls h c))
+cut-apart f leaves d e g l ls h s t o q =
+    cut d e g (l ++ flatten ls) t o q ∙ ap asOne (sym (unseen f leaves d (g ∷ l) ls h s))
 
 -- ---- events that are all T 1
 ones-only : (l : List Event) → So (onlyT1 l) → So (onlyT l)

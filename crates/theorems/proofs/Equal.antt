@@ -91,10 +91,11 @@ unfolding sameSource
 source-same s = simp (beq-refl)
 
 abbrev counter-fields : Counter → List Field
-counter-fields c = number (c .mode) ∷ number (c .constant) ∷ number (c .count) ∷ number (c .frozen) ∷ flag (c .rcc) ∷ flag (c .gcb) ∷ flag (c .cip) ∷ flag (c .half) ∷ []
+counter-fields c = number (c .mode) ∷ number (c .constant) ∷ number (c .count) ∷ number (c .frozen) ∷ flag (c .rcc) ∷ flag (c .gcb) ∷ flag (c .cip) ∷ flag (c .half) ∷ flag (c .pulse) ∷ []
 
 abbrev counter-of : List Field → Counter
-counter-of l = record { mode = num l 0; constant = num l 1; count = num l 2; frozen = num l 3; rcc = bool l 4; gcb = bool l 5; cip = bool l 6; half = bool l 7 }
+counter-of l =
+    record { mode = num l 0; constant = num l 1; count = num l 2; frozen = num l 3; rcc = bool l 4; gcb = bool l 5; cip = bool l 6; half = bool l 7; pulse = bool l 8 }
 
 pub same-counter : (c e : Counter) → So (sameCounter c e) → c ≡ e
 unfolding sameCounter

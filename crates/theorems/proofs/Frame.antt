@@ -18,6 +18,7 @@ use Rattle.theorems.proofs.Fates.{by-source}
 -- e is d but for its counters, catchers, patterns' PMF and sources: of B and C, whose bits are the counters' lines, all but the catchers;
 -- and of A and B, which may have a handshake, the mode and what they hold
 pub record Frame (d e : Device) : Type 0 where
+  pub version : e .version ≡ d .version
   pub master : e .master ≡ d .master
   pub config : e .config ≡ d .config
   pub phase : e .phase ≡ d .phase
@@ -27,11 +28,12 @@ pub record Frame (d e : Device) : Type 0 where
   pub transfers : e .transfers ≡ d .transfers
 
 pub frame-refl : (d : Device) → Frame d d
-frame-refl d = record { master = refl; config = refl; phase = refl; portB = refl; portC = refl; modes = λ p. refl; transfers = refl }
+frame-refl d = record { version = refl; master = refl; config = refl; phase = refl; portB = refl; portC = refl; modes = λ p. refl; transfers = refl }
 
 pub frame-trans : {d e f : Device} → Frame d e → Frame e f → Frame d f
 frame-trans p q =
     record {
+      version = q .version ∙ p .version;
       master = q .master ∙ p .master;
       config = q .config ∙ p .config;
       phase = q .phase ∙ p .phase;
@@ -43,12 +45,12 @@ frame-trans p q =
 
 pub frame-event : (d : Device) (k : ℕ) (hides happens : Bool) → Frame d (eventAt d k hides happens)
 frame-event d k hides happens =
-    by-source (Frame d) d k hides happens (frame-refl d) (λ s. record { master = refl; config = refl; phase = refl; portB = refl; portC = refl; modes = λ p. refl; transfers = refl })
+    by-source (Frame d) d k hides happens (frame-refl d) (λ s. record { version = refl; master = refl; config = refl; phase = refl; portB = refl; portC = refl; modes = λ p. refl; transfers = refl })
 
 pub frame-turned : (d : Device) (i : ℕ) (r : Counted) → Frame d (turned d i r .device)
 unfolding turned eventAt
 frame-turned d i r =
-    let w : Frame d (withCounter d i (r .counter)) = record { master = refl; config = refl; phase = refl; portB = refl; portC = refl; modes = λ p. refl; transfers = refl } in
+    let w : Frame d (withCounter d i (r .counter)) = record { version = refl; master = refl; config = refl; phase = refl; portB = refl; portC = refl; modes = λ p. refl; transfers = refl } in
     frame-trans w (frame-event (withCounter d i (r .counter)) (ofCounter i) true (r .terminal))
 
 pub frame-turn : (k : Link) (timer : Bool) (were are i : ℕ) (d : Device) → Frame d (counterTurn k timer were are i d .device)
@@ -57,7 +59,7 @@ frame-turn k timer were are i d = frame-turned d i _
 
 frame-catchers : (d : Device) → Frame d (catchers d)
 unfolding catchers caughtAt
-frame-catchers d = record { master = refl; config = refl; phase = refl; portB = refl; portC = refl; modes = λ p. refl; transfers = refl }
+frame-catchers d = record { version = refl; master = refl; config = refl; phase = refl; portB = refl; portC = refl; modes = λ p. refl; transfers = refl }
 
 -- PMF is no part of the modes
 pub pmf-modes : (d : Device) (p : ℕ) (matches : Bool) (j : ℕ) → patternAt (withPattern d p (withPmf (patternAt d p) matches)) j .mode ≡ patternAt d j .mode
@@ -68,10 +70,10 @@ frame-matched : (p : ℕ) (matches : Bool) (d : Device) → Frame d (matchedBy p
 unfolding matchedBy
 frame-matched p matches d =
     let w : Frame d (withPattern d p (withPmf (patternAt d p) matches)) =
-    record { master = refl; config = refl; phase = refl; portB = refl; portC = refl; modes = pmf-modes d p matches; transfers = refl } in
+    record { version = refl; master = refl; config = refl; phase = refl; portB = refl; portC = refl; modes = pmf-modes d p matches; transfers = refl } in
     frame-trans w (frame-event (withPattern d p (withPmf (patternAt d p) matches)) (ofPort p) (patternAt d p .ioe) _)
 
-frame-pattern : (p before : ℕ) (d : Device) → Frame d (patternTurn p before d)
+pub frame-pattern : (p before : ℕ) (d : Device) → Frame d (patternTurn p before d)
 unfolding patternTurn
 frame-pattern p before d = frame-matched p _ d
 
@@ -91,7 +93,7 @@ event-counters d k hides happens = by-source (λ e. e .counters ≡ d .counters)
 
 -- the turn of counter i, in a device with these counters
 abbrev pub turnAt : Link → Bool → ℕ → ℕ → ℕ → Device → Counted
-turnAt link timer were are i d = turnOf (counterEnabled d i) (reachOf (counterAt d i) link timer were are) (counterAt d i)
+turnAt link timer were are i d = turnOf (d .version) (counterEnabled d i) (reachOf (counterAt d i) link timer were are) (counterAt d i)
 
 pub turn-counters : (k : Link) (timer : Bool) (were are i : ℕ) (d : Device)
     → counterTurn k timer were are i d .device .counters ≡ set (d .counters) i (turnAt k timer were are i d .counter)

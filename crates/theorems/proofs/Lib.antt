@@ -32,6 +32,8 @@ pub mod Frame
 pub mod Reports
 pub mod Bytes
 pub mod Demand3
+-- The version, which every event keeps.
+pub mod Versions
 -- Clocks: a free-running counter by division.
 pub mod Countdown
 pub mod Lines

@@ -33,9 +33,9 @@ lineBit enabled q v k =
     (bit (q .polarity) k) v
 
 -- a counter's output stands at one bit alone
-standing-other : (c : Counter) (k x j : ℕ) → j < 8 → eqb j k ≡ false → bit (standing c k x) j ≡ bit x j
+standing-other : (n : ℕ) (c : Counter) (k x j : ℕ) → j < 8 → eqb j k ≡ false → bit (standing n c k x) j ≡ bit x j
 unfolding standing
-standing-other c k x j h e = bit-byte _ j h ∙ (simp e)
+standing-other n c k x j h e = bit-byte _ j h ∙ (simp e)
 
 line-b : (d : Device) (k : ℕ) → k < 8 → eqb k 4 ≡ false → eqb k 0 ≡ false
     → bit (pathAt d 1) k ≡ lineBit (portEnabled d 1) (effectiveAt d 1) (bit (portAt d 1 .output) k) k
@@ -43,7 +43,7 @@ unfolding pathAt pinsAt valueAt lineBit
 line-b d k h e f =
     path-bit (portEnabled d 1) (effectiveAt d 1) _ k h
     ∙ ap (λ (v : Bool). lineBit (portEnabled d 1) (effectiveAt d 1) v k)
-    (standing-other (counterAt d 0) 4 _ k h e ∙ standing-other (counterAt d 1) 0 (portAt d 1 .output) k h f)
+    (standing-other (d .version) (counterAt d 0) 4 _ k h e ∙ standing-other (d .version) (counterAt d 1) 0 (portAt d 1 .output) k h f)
 
 -- a ready line, or the output register's bit
 outBit : Device → ℕ → Bool
@@ -55,7 +55,7 @@ line-c d k h f =
     path-bit (portEnabled d 2) (effectiveAt d 2) _ k h
     ∙ ap (λ (v : Bool). lineBit (portEnabled d 2) (effectiveAt d 2) v k)
     (bit-byte _ k h
-    ∙ ap (λ (v : Bool). cond (isLine d k && eqb (k % 2) 1) (readyAt d (1 - k / 2)) v) (standing-other (counterAt d 2) 0 (portAt d 2 .output) k h f))
+    ∙ ap (λ (v : Bool). cond (isLine d k && eqb (k % 2) 1) (readyAt d (1 - k / 2)) v) (standing-other (d .version) (counterAt d 2) 0 (portAt d 2 .output) k h f))
 
 -- D3 of a byte's halves
 high-half : (x : ℕ) → bit (x / 16) 3 ≡ bit x 7

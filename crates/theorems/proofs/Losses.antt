@@ -117,7 +117,7 @@ module _ (timer : Bool) (d0 d1 : Device) (shape : Shaped d1) where
   first = counterTurn unlinked timer (linesAt d0 0) (linesAt d1 0) 0 d1
 
   abbrev link2 : Link
-  link2 = linkOf (lc d1) (outputOf (counterAt d0 0)) (outputOf (counterAt (first .device) 0))
+  link2 = linkOf (lc d1) (outputOf (d0 .version) (counterAt d0 0)) (outputOf (d1 .version) (counterAt (first .device) 0))
 
   abbrev second : Turned
   second = counterTurn link2 timer (linesAt d0 1) (linesAt d1 1) 1 (first .device)

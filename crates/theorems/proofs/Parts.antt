@@ -2,7 +2,7 @@
 -- Assumes nothing.
 use Prim.Native.Nat.{ℕ, _<_, _≤_}
 use mathlib.Core.Path.{_≡_, refl, subst}
-use mathlib.Core.Bool.{Bool, true, false, not, _&&_, So, false≢true}
+use mathlib.Core.Bool.{Bool, true, false, not, _&&_, _||_, So, false≢true}
 use mathlib.Core.List.{[], _∷_}
 use lib.Dec.{eqb, ltb}
 use borrow.Author.Tests.{ltb-true, lt-ltb, eqb-true, eq-eqb, leb-true, le-leb}
@@ -15,7 +15,7 @@ use Rattle.rules.specs.declared.Device.{Device}
 use Rattle.rules.specs.Record.{vectorAt, portAt, patternAt, transferAt, counterAt, sourceAt, quiet, idle, bare, blank, vacant, ofPort}
 use Rattle.rules.specs.Registers.{reset, portEnabled, counterEnabled, laterConfig, laterCounterMode}
 use Rattle.rules.specs.Handshakes.{handshakes, itb, strobed, depth}
-use Rattle.rules.specs.Sound.{only, fourBits, laterPort, errOnly, hiddenOnly, soundSource, cipOnly, halfOnly, frozenOnly, soundCounter, pmfOnly, soundPortAt}
+use Rattle.rules.specs.Sound.{only, fourBits, laterPort, errOnly, hiddenOnly, soundSource, cipOnly, halfOnly, frozenOnly, pulseOnly, soundCounter, pmfOnly, soundPortAt}
 use Rattle.rules.specs.Sound.{sameTransfer, heldOnly, roomOnly, bytesOnly, unfinishedOnly, pairOnly, soundTransfer}
 use Rattle.basics.proofs.Tests.{so-both, left, right, each}
 use Rattle.theorems.proofs.Equal.{same-transfer, transfer-same}
@@ -29,16 +29,20 @@ pub only-if : (a b : Bool) → (So a → So b) → So (only a b)
 only-if true b f = f refl
 only-if false b f = refl
 
--- ---- one source, one counter, port C, what one port holds
+-- ---- the version, one source, one counter, port C, what one port holds
+abbrev pub Version : ℕ → Type 0
+Version n = So (eqb n 1 || eqb n 2)
+
 pub record SourceSound (s : Source) : Type 0 where
   pub err : So (s .err) → So (s .ip)
   pub hidden : So (s .hidden) → So (s .ip && not (s .err))
 
-pub record CounterSound (enabled : Bool) (c : Counter) : Type 0 where
+pub record CounterSound (version : ℕ) (enabled : Bool) (c : Counter) : Type 0 where
   pub mode : laterCounterMode (c .mode) ≡ false
   pub cip : So (c .cip) → So enabled
   pub half : So (c .half) → So (c .cip)
   pub frozen : So (not (c .rcc)) → So (eqb (c .frozen) 0)
+  pub pulse : So (c .pulse) → So (eqb version 2 && enabled)
 
 pub record FourBits (q : Port) : Type 0 where
   pub polarity : q .polarity < 16
@@ -69,22 +73,24 @@ pub sound-source : {s : Source} → SourceSound s → So (soundSource s)
 unfolding soundSource errOnly hiddenOnly
 sound-source {s} h = so-both (only-if (s .err) (s .ip) (h .err)) (only-if (s .hidden) (s .ip && not (s .err)) (h .hidden))
 
-pub counter-sound : {e : Bool} {c : Counter} → laterCounterMode (c .mode) ≡ false → So (soundCounter e c) → CounterSound e c
-unfolding soundCounter cipOnly halfOnly frozenOnly
-counter-sound {e} {c} m h =
-    let g = left (cipOnly e c && halfOnly c) (frozenOnly c) h in
+pub counter-sound : {n : ℕ} {e : Bool} {c : Counter} → laterCounterMode (c .mode) ≡ false → So (soundCounter n e c) → CounterSound n e c
+unfolding soundCounter cipOnly halfOnly frozenOnly pulseOnly
+counter-sound {n} {e} {c} m h =
+    let part = each (cipOnly e c ∷ halfOnly c ∷ frozenOnly c ∷ pulseOnly n e c ∷ []) h in
     record {
       mode = m;
-      cip = if-then (c .cip) e (left (cipOnly e c) (halfOnly c) g);
-      half = if-then (c .half) (c .cip) (right (cipOnly e c) (halfOnly c) g);
-      frozen = if-then (not (c .rcc)) (eqb (c .frozen) 0) (right (cipOnly e c && halfOnly c) (frozenOnly c) h);
+      cip = if-then (c .cip) e (part 0);
+      half = if-then (c .half) (c .cip) (part 1);
+      frozen = if-then (not (c .rcc)) (eqb (c .frozen) 0) (part 2);
+      pulse = if-then (c .pulse) (eqb n 2 && e) (part 3);
     }
 
-pub sound-counter : {e : Bool} {c : Counter} → CounterSound e c → So (soundCounter e c)
-unfolding soundCounter cipOnly halfOnly frozenOnly
-sound-counter {e} {c} h =
-    so-both (so-both (only-if (c .cip) e (h .cip)) (only-if (c .half) (c .cip) (h .half)))
-    (only-if (not (c .rcc)) (eqb (c .frozen) 0) (h .frozen))
+pub sound-counter : {n : ℕ} {e : Bool} {c : Counter} → CounterSound n e c → So (soundCounter n e c)
+unfolding soundCounter cipOnly halfOnly frozenOnly pulseOnly
+sound-counter {n} {e} {c} h =
+    so-both
+    (so-both (so-both (only-if (c .cip) e (h .cip)) (only-if (c .half) (c .cip) (h .half))) (only-if (not (c .rcc)) (eqb (c .frozen) 0) (h .frozen)))
+    (only-if (c .pulse) (eqb n 2 && e) (h .pulse))
 
 pub four-bits : {q : Port} → So (fourBits q) → FourBits q
 unfolding fourBits
@@ -137,7 +143,7 @@ sound-transfer {e} {q} {s} {t} h =
     (only-if (t .unfinished) (not (strobed q)) (h .unfinished)))
     (only-if (t .pair) (s .ip && itb q) (h .pair))
 
--- ---- the record as reset leaves it, but for the outside pins and IEI
+-- ---- the record as reset leaves it, but for the version, the outside pins and IEI
 pub record Cleared (d : Device) : Type 0 where
   pub master : d .master ≡ 1
   pub config : d .config ≡ 0
@@ -151,10 +157,11 @@ pub record Cleared (d : Device) : Type 0 where
 
 -- ---- what a step needs of the record after its direct effect
 pub record Base (d : Device) : Type 0 where
+  pub version : Version (d .version)
   pub config : laterConfig (d .config) ≡ false
-  pub modes : (p : ℕ) → p < 2 → laterPort (patternAt d p) ≡ false
+  pub modes : (p : ℕ) → p < 2 → laterPort (d .version) (patternAt d p) ≡ false
   pub transfers : (p : ℕ) → p < 2 → TransferSound (portEnabled d p) (patternAt d p) (sourceAt d (ofPort p)) (transferAt d p)
-  pub counters : (i : ℕ) → i < 3 → CounterSound (counterEnabled d i) (counterAt d i)
+  pub counters : (i : ℕ) → i < 3 → CounterSound (d .version) (counterEnabled d i) (counterAt d i)
   pub sources : (k : ℕ) → k < 5 → SourceSound (sourceAt d k)
   pub four : FourBits (portAt d 2)
   pub held : So (reset d) → Cleared d

@@ -68,26 +68,27 @@ module _ (d e : Device) where
   same-is s t h =
       let part =
       each
-      (eqb (d .master) (e .master) ∷ eqb (d .config) (e .config)
+      (eqb (d .version) (e .version) ∷ eqb (d .master) (e .master) ∷ eqb (d .config) (e .config)
       ∷ sameVectors d e ∷ samePorts d e ∷ samePatterns d e ∷ sameTransfers d e ∷ sameCounters d e ∷ sameSources d e
       ∷ Bool·beq (d .iei) (e .iei) ∷ Bool·beq (d .phase) (e .phase) ∷ [])
       h in
-      let vectors = lists 3 (d .vectors) (e .vectors) 0 (s .vectors) (t .vectors) (vectors-are (part 2)) in
-      let ports = lists 3 (d .ports) (e .ports) (bare 0) (s .ports) (t .ports) (ports-are (part 3)) in
-      let patterns = lists 2 (d .patterns) (e .patterns) blank (s .patterns) (t .patterns) (patterns-are (part 4)) in
-      let transfers = lists 2 (d .transfers) (e .transfers) vacant (s .transfers) (t .transfers) (transfers-are (part 5)) in
-      let counters = lists 3 (d .counters) (e .counters) idle (s .counters) (t .counters) (counters-are (part 6)) in
-      let sources = lists 5 (d .sources) (e .sources) quiet (s .sources) (t .sources) (sources-are (part 7)) in
+      let vectors = lists 3 (d .vectors) (e .vectors) 0 (s .vectors) (t .vectors) (vectors-are (part 3)) in
+      let ports = lists 3 (d .ports) (e .ports) (bare 0) (s .ports) (t .ports) (ports-are (part 4)) in
+      let patterns = lists 2 (d .patterns) (e .patterns) blank (s .patterns) (t .patterns) (patterns-are (part 5)) in
+      let transfers = lists 2 (d .transfers) (e .transfers) vacant (s .transfers) (t .transfers) (transfers-are (part 6)) in
+      let counters = lists 3 (d .counters) (e .counters) idle (s .counters) (t .counters) (counters-are (part 7)) in
+      let sources = lists 5 (d .sources) (e .sources) quiet (s .sources) (t .sources) (sources-are (part 8)) in
       λ i.
       record {
-        master = eqb-true (d .master) (e .master) (part 0) i;
-        config = eqb-true (d .config) (e .config) (part 1) i;
+        version = eqb-true (d .version) (e .version) (part 0) i;
+        master = eqb-true (d .master) (e .master) (part 1) i;
+        config = eqb-true (d .config) (e .config) (part 2) i;
         vectors = vectors i;
         ports = ports i;
         patterns = patterns i;
         transfers = transfers i;
         counters = counters i;
         sources = sources i;
-        iei = beq-true (d .iei) (e .iei) (part 8) i;
-        phase = beq-true (d .phase) (e .phase) (part 9) i;
+        iei = beq-true (d .iei) (e .iei) (part 9) i;
+        phase = beq-true (d .phase) (e .phase) (part 10) i;
       }

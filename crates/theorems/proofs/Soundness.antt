@@ -1,7 +1,7 @@
 -- Every event takes a sound record to a sound record, from the fresh device on. No length of a list and no range of a number is asked.
 -- Assumes nothing.
 use Prim.Native.Nat.{ℕ}
-use mathlib.Core.Path.{_≡_, sym, _∙_}
+use mathlib.Core.Path.{_≡_, refl, sym, _∙_}
 use mathlib.Core.Bool.{true, true≢false}
 use mathlib.Core.List.{List, [], _∷_}
 use lib.Dec.{lit<}
@@ -23,7 +23,7 @@ use Rattle.theorems.proofs.Refusals.{ways, code-is, code-9}
 -- the fresh device is sound
 pub fresh-sound : soundOf freshOf ≡ true
 unfolding resetOf
-fresh-sound = parts-sound freshOf (reset-sound freshOf (lit< tt))
+fresh-sound = parts-sound freshOf (reset-sound freshOf refl (lit< tt))
 
 -- one clock, n of them, and T n
 pub clock-sound : (s : Ran) → soundOf (s .device) ≡ true → soundOf (clockOf s .device) ≡ true

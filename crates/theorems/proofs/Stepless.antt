@@ -20,7 +20,7 @@ use Rattle.rules.specs.Access.{readsByte, afterRead}
 use Rattle.rules.specs.Sound.{pmfOnly, catcherOnly, catcherSet, soundPort, soundPortAt}
 use Rattle.basics.proofs.Tests.{right, not-so, never, by-test}
 use Rattle.basics.proofs.Places.{each2, each3, set-gives}
-use Rattle.theorems.proofs.Parts.{Cleared, Base, Sound}
+use Rattle.theorems.proofs.Parts.{Version, Cleared, Base, Sound}
 use Rattle.theorems.proofs.CounterLaws.{thawed-sound}
 use Rattle.theorems.proofs.SourceLaws.{ius-sound, read-source}
 use Rattle.theorems.proofs.TransferLaws.{moved-sound, moved-ip}
@@ -29,11 +29,11 @@ use Rattle.theorems.proofs.Stores.{base-transfer, base-counter, base-so
 use Rattle.theorems.proofs.Writes.{awake, reset-base, one-port}
 
 -- ---- a reset
-pub reset-sound : (d : Device) → portAt d 2 .outside < 16 → Sound (resetOf d)
+pub reset-sound : (d : Device) → Version (d .version) → portAt d 2 .outside < 16 → Sound (resetOf d)
 unfolding resetOf soundPortAt soundPort catcherOnly catcherSet catchesAt catches every pmfOnly portOn
-reset-sound d h =
+reset-sound d v h =
     record {
-      base = reset-base d h;
+      base = reset-base d v h;
       ports = each3 (λ p. So (soundPortAt (resetOf d) p)) refl refl refl;
       patterns = each2 (λ p. So (pmfOnly (portEnabled (resetOf d) p) (patternAt (resetOf d) p))) refl refl;
     }
@@ -104,6 +104,7 @@ iei-sound d v h =
     record {
       base =
           record {
+            version = b .version;
             config = b .config;
             modes = b .modes;
             transfers = b .transfers;
@@ -132,6 +133,7 @@ iei-sound d v h =
 pub phase-base : (d : Device) (v : Bool) → reset d ≡ false → Base d → Base (withPhase d v)
 phase-base d v z b =
     record {
+      version = b .version;
       config = b .config;
       modes = b .modes;
       transfers = b .transfers;

@@ -41,7 +41,7 @@ event-base d k hides happens h f =
 
 -- ---- (b), (c), (d): a counter's turn; under RESET it is not enabled
 turned-base : (d : Device) (i : ℕ) (r : Counted) → Base d
-    → (CounterSound (counterEnabled d i) (counterAt d i) → CounterSound (counterEnabled d i) (r .counter))
+    → (CounterSound (d .version) (counterEnabled d i) (counterAt d i) → CounterSound (d .version) (counterEnabled d i) (r .counter))
     → (d .config ≡ 0 → r ≡ record { counter = counterAt d i; terminal = false }) → Base (turned d i r .device)
 unfolding turned eventAt
 turned-base d i r h f g =
@@ -55,8 +55,8 @@ counter-base : (link : Link) (timer : Bool) (were are i : ℕ) (d : Device) → 
 unfolding counterTurn
 counter-base link timer were are i d off h =
     let reach = reachOf (counterAt d i) link timer were are in
-    turned-base d i (turnOf (counterEnabled d i) reach (counterAt d i)) h (turn-sound reach (counterAt d i))
-    (λ c. turn-off (counterEnabled d i) reach (counterAt d i) (ap (λ (n : ℕ). counterOn n i) c ∙ off))
+    turned-base d i (turnOf (d .version) (counterEnabled d i) reach (counterAt d i)) h (turn-sound reach (counterAt d i))
+    (λ c. turn-off (d .version) (counterEnabled d i) reach (counterAt d i) (ap (λ (n : ℕ). counterOn n i) c ∙ off))
 
 -- ---- (e): the catchers
 port-off : (d : Device) (p : ℕ) → p < 3 → d .config ≡ 0 → portEnabled d p ≡ false

@@ -86,6 +86,7 @@ module _ (d : Device) where
   pub base-ports : (qs : List Port) → Base d → FourBits (getD qs 2 (bare 0)) → (Cleared d → Cleared (withPorts d qs)) → Base (withPorts d qs)
   base-ports qs h f g =
       record {
+        version = h .version;
         config = h .config;
         modes = h .modes;
         transfers = h .transfers;
@@ -95,13 +96,14 @@ module _ (d : Device) where
         held = λ r. g (h .held r);
       }
 
-  pub base-pattern : (p : ℕ) (q : Pattern) → Base d → (laterPort (patternAt d p) ≡ false → laterPort q ≡ false)
+  pub base-pattern : (p : ℕ) (q : Pattern) → Base d → (laterPort (d .version) (patternAt d p) ≡ false → laterPort (d .version) q ≡ false)
       → (TransferAt p (patternAt d p) (transferAt d p) → TransferAt p q (transferAt d p))
       → (Cleared d → Cleared (withPattern d p q)) → Base (withPattern d p q)
   base-pattern p q h f t g =
       record {
+        version = h .version;
         config = h .config;
-        modes = λ j l. set-keeps (λ _ r. laterPort r ≡ false) (d .patterns) p j q blank f (h .modes j l);
+        modes = λ j l. set-keeps (λ _ r. laterPort (d .version) r ≡ false) (d .patterns) p j q blank f (h .modes j l);
         transfers = λ j l. set-keeps (λ j r. TransferAt j r (transferAt d j)) (d .patterns) p j q blank t (h .transfers j l);
         counters = h .counters;
         sources = h .sources;
@@ -113,6 +115,7 @@ module _ (d : Device) where
       → (Cleared d → Cleared (withTransfer d p t)) → Base (withTransfer d p t)
   base-transfer p t h f g =
       record {
+        version = h .version;
         config = h .config;
         modes = h .modes;
         transfers = λ j l. set-keeps (λ j u. TransferAt j (patternAt d j) u) (d .transfers) p j t vacant f (h .transfers j l);
@@ -123,14 +126,15 @@ module _ (d : Device) where
       }
 
   pub base-counter : (i : ℕ) (c : Counter) → Base d
-      → (CounterSound (counterEnabled d i) (counterAt d i) → CounterSound (counterEnabled d i) c)
+      → (CounterSound (d .version) (counterEnabled d i) (counterAt d i) → CounterSound (d .version) (counterEnabled d i) c)
       → (Cleared d → Cleared (withCounter d i c)) → Base (withCounter d i c)
   base-counter i c h f g =
       record {
+        version = h .version;
         config = h .config;
         modes = h .modes;
         transfers = h .transfers;
-        counters = λ j l. set-keeps (λ j e. CounterSound (counterEnabled d j) e) (d .counters) i j c idle f (h .counters j l);
+        counters = λ j l. set-keeps (λ j e. CounterSound (d .version) (counterEnabled d j) e) (d .counters) i j c idle f (h .counters j l);
         sources = h .sources;
         four = h .four;
         held = λ r. g (h .held r);
@@ -142,6 +146,7 @@ module _ (d : Device) where
       → (Cleared d → Cleared (withSource d k s)) → Base (withSource d k s)
   base-source k s h f i g =
       record {
+        version = h .version;
         config = h .config;
         modes = h .modes;
         transfers =

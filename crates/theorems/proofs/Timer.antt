@@ -1,7 +1,7 @@
 -- A timer clock at a free-running counter is one count of it.
 -- Assumes nothing.
 use Prim.Native.Nat.{ℕ, zero, suc, _<_}
-use mathlib.Core.Path.{_≡_, refl, ap, _∙_}
+use mathlib.Core.Path.{_≡_, refl, ap, ap₂, _∙_}
 use mathlib.Core.Bool.{Bool, true, false, not, _||_, and-false, not-and-self, false≢true}
 use mathlib.Core.List.{List, [], _∷_}
 use native.Mathlib.Omega.{arith}
@@ -15,24 +15,25 @@ use Rattle.rules.specs.declared.Link.{Link}
 use Rattle.rules.specs.declared.Turned.{Turned}
 use Rattle.basics.specs.Byte.{bit}
 use Rattle.rules.specs.Record.{counterAt, sourceAt, idle, ofCounter}
-use Rattle.rules.specs.With.{withCount, withHalf, withPhase}
+use Rattle.rules.specs.With.{withCount, withHalf, withPulse, withPhase}
 use Rattle.rules.specs.Registers.{counterOn, counterEnabled, lc}
 use Rattle.rules.specs.PortData.{seenAt}
-use Rattle.rules.specs.Counters.{continuous, square, countInput, gateInput, lessOne, terminalOf, countOf, outputOf, unlinked, linkOf, reachOf, counts, turnOf}
+use Rattle.rules.specs.Counters.{continuous, square, countInput, gateInput, lessOne, terminalOf, countOf, outputOf, unlinked, linkOf, reachOf, clocks, clockedBy, turnOf}
 use Rattle.rules.specs.Step.{linesAt, turned, counterTurn, stepOf}
 use Rattle.theorems.specs.Free.{Free}
 use Rattle.theorems.proofs.Fates.{came-is}
-use Rattle.theorems.proofs.Frame.{frame-turn, turnAt, turn-counters, settled-counters}
+use Rattle.theorems.proofs.Frame.{Frame, frame-refl, frame-trans, frame-turn, turnAt, turn-counters, settled-counters}
 use Rattle.theorems.proofs.Lines.{lines-phase}
 
 -- ---- one count of a continuous counter that is not square
-module _ (c : Counter) (con : continuous c ≡ true) (sq : square c ≡ false) where
-  pub count-last : eqb (lessOne 65536 (c .count)) 0 ≡ true → countOf c ≡ record { counter = withHalf (withCount c (c .constant)) false; terminal = true }
+module _ (n : ℕ) (c : Counter) (con : continuous c ≡ true) (sq : square c ≡ false) where
+  pub count-last : eqb (lessOne 65536 (c .count)) 0 ≡ true
+      → countOf n c ≡ record { counter = withPulse (withHalf (withCount c (c .constant)) false) (eqb n 2); terminal = true }
   unfolding countOf terminalOf
   count-last e = simp (e, con, sq)
 
   pub count-more : eqb (lessOne 65536 (c .count)) 0 ≡ false
-      → countOf c ≡ record { counter = withCount c (lessOne 65536 (c .count)); terminal = false }
+      → countOf n c ≡ record { counter = withPulse (withCount c (lessOne 65536 (c .count))) false; terminal = false }
   unfolding countOf
   count-more e = simp e
 
@@ -40,10 +41,10 @@ module _ (c : Counter) (con : continuous c ≡ true) (sq : square c ≡ false) w
 abbrev clear : Link → Type 0
 clear k = (k .trigger ≡ false) × (k .gate ≡ true) × (k .only ≡ false)
 
-turn-count : (c : Counter) (k : Link) (w : ℕ) → clear k → c .cip ≡ true → c .gcb ≡ true
-    → (not (gateInput c) || bit w 3) ≡ true → countInput c ≡ false → turnOf true (reachOf c k true w w) c ≡ countOf c
-unfolding turnOf reachOf counts
-turn-count c k w u cip gcb gate off = simp (u .0, u .1, u .2, cip, gcb, gate, off, not-and-self, and-false)
+turn-count : (n : ℕ) (c : Counter) (k : Link) (w : ℕ) → clear k → c .cip ≡ true → c .gcb ≡ true
+    → (not (gateInput c) || bit w 3) ≡ true → countInput c ≡ false → turnOf n true (reachOf c k true w w) c ≡ countOf n c
+unfolding turnOf reachOf clocks clockedBy
+turn-count n c k w u cip gcb gate off = simp (u .0, u .1, u .2, cip, gcb, gate, off, not-and-self, and-false)
 
 -- ---- a timer clock, turn by turn
 abbrev pub low : Device → Device
@@ -53,7 +54,7 @@ abbrev pub turn1 : Device → Turned
 turn1 d = counterTurn unlinked true (linesAt d 0) (linesAt (low d) 0) 0 (low d)
 
 abbrev pub link2 : Device → Link
-link2 d = linkOf (lc (low d)) (outputOf (counterAt d 0)) (outputOf (counterAt (turn1 d .device) 0))
+link2 d = linkOf (lc (low d)) (outputOf (d .version) (counterAt d 0)) (outputOf (d .version) (counterAt (turn1 d .device) 0))
 
 abbrev pub turn2 : Device → Turned
 turn2 d = counterTurn (link2 d) true (linesAt d 1) (linesAt (low d) 1) 1 (turn1 d .device)
@@ -120,13 +121,13 @@ there (c ∷ l) (suc i) e = omega (arith, there l i e)
 
 -- ---- at a free-running counter
 module _ (d : Device) (i : ℕ) (free : Free d i) where
-  turn-free : (k : Link) (e : Device) → clear k → e .config ≡ d .config → counterAt e i ≡ counterAt d i → given d i k e ≡ countOf (counterAt d i)
-  turn-free k e u p q =
-      ap (λ (c : Counter). turnOf (counterEnabled e i) (reachOf c k true (linesAt d i) (linesAt (low d) i)) c) q
-      ∙ ap (λ (w : ℕ). turnOf (counterEnabled e i) (reachOf (counterAt d i) k true (linesAt d i) w) (counterAt d i)) (lines-phase d false i)
-      ∙ ap (λ (v : Bool). turnOf v (reachOf (counterAt d i) k true (linesAt d i) (linesAt d i)) (counterAt d i))
-      (ap (λ (b : ℕ). counterOn b i) p ∙ free .enabled)
-      ∙ turn-count (counterAt d i) k (linesAt d i) u (free .cip) (free .gcb) (free .gate) (free .clocked)
+  turn-free : (k : Link) (e : Device) → clear k → Frame (low d) e → counterAt e i ≡ counterAt d i → given d i k e ≡ countOf (d .version) (counterAt d i)
+  turn-free k e u f q =
+      ap (λ (c : Counter). turnOf (e .version) (counterEnabled e i) (reachOf c k true (linesAt d i) (linesAt (low d) i)) c) q
+      ∙ ap (λ (w : ℕ). turnOf (e .version) (counterEnabled e i) (reachOf (counterAt d i) k true (linesAt d i) w) (counterAt d i)) (lines-phase d false i)
+      ∙ ap₂ (λ (n : ℕ) (v : Bool). turnOf n v (reachOf (counterAt d i) k true (linesAt d i) (linesAt d i)) (counterAt d i)) (f .version)
+      (ap (λ (b : ℕ). counterOn b i) (f .config) ∙ free .enabled)
+      ∙ turn-count (d .version) (counterAt d i) k (linesAt d i) u (free .cip) (free .gcb) (free .gate) (free .clocked)
 
 -- a link under LC 00
 link-clear : (d : Device) → lc d ≡ 0 → clear (link2 d)
@@ -153,21 +154,21 @@ terminal-at d (suc (suc zero)) h = ap (λ (l : List Bool). getD l 2 false) (cloc
 terminal-at d (suc (suc (suc i))) h = absurd (omega arith)
 
 -- a free-running counter's turn is a count
-free-turn : (d : Device) (i : ℕ) → i < 3 → Free d i → getD (turnsOf d) i none ≡ countOf (counterAt d i)
-free-turn d zero h free = turn-free d 0 free unlinked (low d) (refl, refl, refl) refl refl
+free-turn : (d : Device) (i : ℕ) → i < 3 → Free d i → getD (turnsOf d) i none ≡ countOf (d .version) (counterAt d i)
+free-turn d zero h free = turn-free d 0 free unlinked (low d) (refl, refl, refl) (frame-refl (low d)) refl
 free-turn d (suc zero) h free =
     let f = frame-turn unlinked true (linesAt d 0) (linesAt (low d) 0) 0 (low d) in
-    turn-free d 1 free (link2 d) (turn1 d .device) (link-clear d (free .unlinked refl)) (f .config) (second-there d)
+    turn-free d 1 free (link2 d) (turn1 d .device) (link-clear d (free .unlinked refl)) f (second-there d)
 free-turn d (suc (suc zero)) h free =
     let f = frame-turn unlinked true (linesAt d 0) (linesAt (low d) 0) 0 (low d) in
     let g = frame-turn (link2 d) true (linesAt d 1) (linesAt (low d) 1) 1 (turn1 d .device) in
-    turn-free d 2 free unlinked (turn2 d .device) (refl, refl, refl) (g .config ∙ f .config) (third-there d)
+    turn-free d 2 free unlinked (turn2 d .device) (refl, refl, refl) (frame-trans f g) (third-there d)
 free-turn d (suc (suc (suc i))) h free = absurd (omega arith)
 
 -- the counter is counted, and its terminal is the step's
 pub record Clocked (d : Device) (i : ℕ) : Type 0 where
-  pub counter : counterAt (stepOf true d (low d) .device) i ≡ countOf (counterAt d i) .counter
-  pub terminal : getD (stepOf true d (low d) .terminals) i false ≡ countOf (counterAt d i) .terminal
+  pub counter : counterAt (stepOf true d (low d) .device) i ≡ countOf (d .version) (counterAt d i) .counter
+  pub terminal : getD (stepOf true d (low d) .terminals) i false ≡ countOf (d .version) (counterAt d i) .terminal
 
 pub clocked : (d : Device) (i : ℕ) → i < 3 → Free d i → Clocked d i
 clocked d i h free =

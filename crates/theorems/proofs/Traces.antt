@@ -1,8 +1,8 @@
 -- Events one after the other: a list cut anywhere is its first part and then the rest; what every event keeps, a list keeps; and
--- what leaves a record as it is may be done at every cut.
+-- what leaves sound records as they are may be done at every cut.
 -- Assumes nothing.
 use mathlib.Core.Path.{_≡_, refl, sym, ap, _∙_}
-use mathlib.Core.Bool.{Bool, true}
+use mathlib.Core.Bool.{true}
 use mathlib.Core.List.{List, [], _∷_, _++_, flatten, append-nil}
 use Rattle.rules.specs.declared.Device.{Device}
 use Rattle.rules.specs.declared.Event.{Event}
@@ -10,8 +10,7 @@ use Rattle.rules.specs.declared.Answer.{Answer}
 use Rattle.rules.specs.Record.{Shaped}
 use Rattle.rules.specs.Sound.{soundOf}
 use Rattle.rules.specs.Events.{eventOf}
-use Rattle.theorems.specs.Traces.{answersOf, recordAfter, Traced, tracedOf, followedBy, cutBy, atCuts}
-use Rattle.basics.proofs.Tests.{both}
+use Rattle.theorems.specs.Traces.{answersOf, recordAfter, Traced, tracedOf, followedBy, cutBy}
 use Rattle.theorems.proofs.Soundness.{event-sound}
 use Rattle.theorems.proofs.Shapes.{event-shaped}
 
@@ -40,16 +39,16 @@ unfolding recordAfter
 list-shaped d [] h = h
 list-shaped d (e ∷ l) h = list-shaped (eventOf d e .device) l (event-shaped d h e)
 
--- ---- what leaves the records as they are that have the device's shape and pass a test is not seen, at whatever cuts they pass it
-module _ (f : Device → Device) (test : Device → Bool) (leaves : (d : Device) → Shaped d → test d ≡ true → f d ≡ d) where
-  pub unseen : (d : Device) (l : List Event) (ls : List (List Event)) → Shaped d → atCuts test d l ls ≡ true
+-- ---- what leaves the sound records of the device's shape as they are is not seen, at whatever cuts it is done
+module _ (f : Device → Device) (leaves : (d : Device) → Shaped d → soundOf d ≡ true → f d ≡ d) where
+  pub unseen : (d : Device) (l : List Event) (ls : List (List Event)) → Shaped d → soundOf d ≡ true
       → cutBy f d l ls ≡ tracedOf d (flatten (l ∷ ls))
-  unfolding cutBy flatten atCuts
-  unseen d l [] h c = ap (tracedOf d) (sym (append-nil l))
-  unseen d l (m ∷ ms) h c =
+  unfolding cutBy flatten
+  unseen d l [] h s = ap (tracedOf d) (sym (append-nil l))
+  unseen d l (m ∷ ms) h s =
       let h′ = list-shaped d l h in
-      let k = both (test (recordAfter d l)) (atCuts test (recordAfter d l) m ms) c in
-      ap (λ (e : Device). onto (cutBy f e m ms)) (leaves (recordAfter d l) h′ (k .0)) ∙ ap onto (unseen (recordAfter d l) m ms h′ (k .1))
+      let s′ = list-sound d l s in
+      ap (λ (e : Device). onto (cutBy f e m ms)) (leaves (recordAfter d l) h′ s′) ∙ ap onto (unseen (recordAfter d l) m ms h′ s′)
       ∙ sym (cut-trace d l (flatten (m ∷ ms)))
     where
       onto : Traced → Traced

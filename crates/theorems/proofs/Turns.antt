@@ -21,7 +21,7 @@ use Rattle.rules.specs.Counters.{outputOf, unlinked, linkOf, reachOf, turnOf}
 use Rattle.rules.specs.Interrupts.{fateOf, afterFate, came, wasLost}
 use Rattle.rules.specs.Step.{linesAt, turned, counterTurn, settled, stepOf}
 use Rattle.theorems.specs.Stretch.{lowerOf}
-use Rattle.theorems.proofs.Frame.{frame-turn, turn-counters}
+use Rattle.theorems.proofs.Frame.{Frame, frame-trans, frame-turn, turn-counters}
 use Rattle.theorems.proofs.Lines.{lines-phase}
 use Rattle.theorems.proofs.Timer.{low, turn1, link2, turn2, given, clock-counters, clock-terminals, second-there, third-there}
 use Rattle.theorems.proofs.Alike.{Alike, seen-alike, lines-alike, settled-alike}
@@ -37,7 +37,7 @@ silent d = record { device = d; terminals = false ∷ false ∷ false ∷ []; lo
 
 -- the turn of a counter c at place i in a timer clock of d
 abbrev turnIn : Device → ℕ → Link → Counter → Counted
-turnIn d i k c = turnOf (counterEnabled d i) (reachOf c k true (linesAt d i) (linesAt d i)) c
+turnIn d i k c = turnOf (d .version) (counterEnabled d i) (reachOf c k true (linesAt d i) (linesAt d i)) c
 
 -- ---- a timer clock of the counters c that leaves the counters e
 module _ (d : Device) (c e : ℕ → Counter) where
@@ -45,7 +45,7 @@ module _ (d : Device) (c e : ℕ → Counter) where
   whole = withCounters d (row c)
 
   abbrev link : Link
-  link = linkOf (lc d) (outputOf (c 0)) (outputOf (e 0))
+  link = linkOf (lc d) (outputOf (d .version) (c 0)) (outputOf (d .version) (e 0))
 
   record Turns : Type 0 where
     first : turnIn whole 0 unlinked (c 0) ≡ quietly (e 0)
@@ -56,7 +56,7 @@ module _ (d : Device) (c e : ℕ → Counter) where
   abbrev rest0 : Counted → Stepped
   rest0 r =
       let b = turned (low whole) 0 r in
-      let l = linkOf (lc (low whole)) (outputOf (counterAt whole 0)) (outputOf (counterAt (b .device) 0)) in
+      let l = linkOf (lc (low whole)) (outputOf (d .version) (counterAt whole 0)) (outputOf (d .version) (counterAt (b .device) 0)) in
       let s = counterTurn l true (linesAt whole 1) (linesAt (low whole) 1) 1 (b .device) in
       let t = counterTurn unlinked true (linesAt whole 2) (linesAt (low whole) 2) 2 (s .device) in
       record {
@@ -86,8 +86,8 @@ module _ (d : Device) (c e : ℕ → Counter) where
 
   -- the lines after (a) are those before
   still : (i : ℕ) (k : Link) (b : Counter)
-      → turnOf (counterEnabled d i) (reachOf b k true (linesAt whole i) (linesAt (low whole) i)) b ≡ turnIn whole i k b
-  still i k b = ap (λ (w : ℕ). turnOf (counterEnabled d i) (reachOf b k true (linesAt whole i) w) b) (lines-phase whole false i)
+      → turnOf (d .version) (counterEnabled d i) (reachOf b k true (linesAt whole i) (linesAt (low whole) i)) b ≡ turnIn whole i k b
+  still i k b = ap (λ (w : ℕ). turnOf (d .version) (counterEnabled d i) (reachOf b k true (linesAt whole i) w) b) (lines-phase whole false i)
 
   by-turns : Turns → stepOf true whole (low whole) ≡ silent (settled (seenAt whole 0) (seenAt whole 1) (low (withCounters d (row e))))
   unfolding stepOf counterTurn turned fateOf afterFate came wasLost
@@ -123,14 +123,15 @@ module _ (d : Device) (c e : ℕ → Counter)
   turn-2 = λ i. record { counter = ap (λ (l : List Counter). getD l 2 idle) made-counters i; terminal = ap (λ (l : List Bool). getD l 2 true) made-terminals i }
 
   -- what a later turn finds
-  found : (i : ℕ) (k : Link) (b : Counter) (f : Device) → f .config ≡ d .config → counterAt f i ≡ b → given before i k f ≡ turnIn before i k b
+  found : (i : ℕ) (k : Link) (b : Counter) (f : Device) → Frame (low before) f → counterAt f i ≡ b → given before i k f ≡ turnIn before i k b
   found i k b f p q =
-      ap₂ (λ (n : ℕ) (x : Counter). turnOf (counterOn n i) (reachOf x k true (linesAt before i) (linesAt (low before) i)) x) p q
+      ap₂ (λ (m n : ℕ). turnOf m (counterOn n i) (reachOf (counterAt f i) k true (linesAt before i) (linesAt (low before) i)) (counterAt f i)) (p .version) (p .config)
+      ∙ ap (λ (x : Counter). turnOf (d .version) (counterEnabled d i) (reachOf x k true (linesAt before i) (linesAt (low before) i)) x) q
       ∙ still d c e i k b
 
   linked : link2 before ≡ link d c e
   linked =
-      ap (λ (b : Counter). linkOf (lc d) (outputOf (c 0)) (outputOf b))
+      ap (λ (b : Counter). linkOf (lc d) (outputOf (d .version) (c 0)) (outputOf (d .version) b))
       (ap (λ (l : List Counter). getD l 0 idle) (turn-counters unlinked true (linesAt before 0) (linesAt (low before) 0) 0 (low before))
       ∙ ap (λ (r : Counted). r .counter) turn-0)
 
@@ -138,8 +139,8 @@ module _ (d : Device) (c e : ℕ → Counter)
   the-turns =
       let f = frame-turn unlinked true (linesAt before 0) (linesAt (low before) 0) 0 (low before) in
       let g = frame-turn (link2 before) true (linesAt before 1) (linesAt (low before) 1) 1 (turn1 before .device) in
-      let at-1 = found 1 (link2 before) (c 1) (turn1 before .device) (f .config) (second-there before) in
-      let at-2 = found 2 unlinked (c 2) (turn2 before .device) (g .config ∙ f .config) (third-there before) in
+      let at-1 = found 1 (link2 before) (c 1) (turn1 before .device) f (second-there before) in
+      let at-2 = found 2 unlinked (c 2) (turn2 before .device) (frame-trans f g) (third-there before) in
       record {
         first = sym (still d c e 0 unlinked (c 0)) ∙ turn-0;
         second = ap (λ (k : Link). turnIn before 1 k (c 1)) (sym linked) ∙ sym at-1 ∙ turn-1;
@@ -150,8 +151,8 @@ module _ (d : Device) (c e : ℕ → Counter)
   settles = ap (λ (s : Stepped). s .device) (sym (by-turns d c e the-turns) ∙ left)
 
 -- ---- rows that show the same
-rows-alike : (b c : ℕ → Counter) → ((i : ℕ) → i < 3 → Like (b i) (c i)) → Alike (row b) (row c)
-rows-alike b c h = record { mode = mode; output = output }
+rows-alike : (n : ℕ) (b c : ℕ → Counter) → ((i : ℕ) → i < 3 → Like n (b i) (c i)) → Alike n (row b) (row c)
+rows-alike n b c h = record { mode = mode; output = output }
   where
     mode : (i : ℕ) → getD (row c) i idle .mode ≡ getD (row b) i idle .mode
     mode zero = h 0 (lit< tt) .mode
@@ -159,7 +160,7 @@ rows-alike b c h = record { mode = mode; output = output }
     mode (suc (suc zero)) = h 2 (lit< tt) .mode
     mode (suc (suc (suc i))) = refl
 
-    output : (i : ℕ) → outputOf (getD (row c) i idle) ≡ outputOf (getD (row b) i idle)
+    output : (i : ℕ) → outputOf n (getD (row c) i idle) ≡ outputOf n (getD (row b) i idle)
     output zero = h 0 (lit< tt) .output
     output (suc zero) = h 1 (lit< tt) .output
     output (suc (suc zero)) = h 2 (lit< tt) .output
@@ -194,39 +195,39 @@ module _ (d : Device) (c : ℕ → Counter) (v : ℕ → Bool) (small : (i : ℕ
     abbrev turns : Turns d c (lower 1)
     turns = the-turns d c (lower 1) first
 
-    as-base : Alike (row c) (row (lower j))
-    as-base = rows-alike c (lower j) (λ i h. like-lower j (v i) (c i) (less j r i h))
+    as-base : Alike (d .version) (row c) (row (lower j))
+    as-base = rows-alike (d .version) c (lower j) (λ i h. like-lower (d .version) j (v i) (c i) (less j r i h))
 
-    as-one : Alike (row (lower 1)) (row (lower (suc j)))
-    as-one = rows-alike (lower 1) (lower (suc j)) (λ i h. like-both 1 (suc j) (v i) (c i) (one i h) (r i h))
+    as-one : Alike (d .version) (row (lower 1)) (row (lower (suc j)))
+    as-one = rows-alike (d .version) (lower 1) (lower (suc j)) (λ i h. like-both (d .version) 1 (suc j) (v i) (c i) (one i h) (r i h))
 
     same-lines : (i : ℕ) (k : Link) (u : Counter) → turnIn (after j) i k u ≡ turnIn base i k u
     same-lines i k u =
-        ap (λ (w : ℕ). turnOf (counterEnabled d i) (reachOf u k true w w) u) (lines-alike base (row (lower j)) as-base i)
+        ap (λ (w : ℕ). turnOf (d .version) (counterEnabled d i) (reachOf u k true w w) u) (lines-alike base (row (lower j)) as-base i)
 
     -- CT1's output stays
     abbrev steady : Link
-    steady = linkOf (lc d) (outputOf (c 0)) (outputOf (c 0))
+    steady = linkOf (lc d) (outputOf (d .version) (c 0)) (outputOf (d .version) (c 0))
 
     was-steady : link d c (lower 1) ≡ steady
-    was-steady = ap (linkOf (lc d) (outputOf (c 0))) (lower-output 1 (v 0) (c 0) (one 0 (lit< tt)))
+    was-steady = ap (linkOf (lc d) (outputOf (d .version) (c 0))) (lower-output (d .version) 1 (v 0) (c 0) (one 0 (lit< tt)))
 
     is-steady : link d (lower j) (lower (suc j)) ≡ steady
     is-steady =
-        ap₂ (linkOf (lc d)) (lower-output j (v 0) (c 0) (less j r 0 (lit< tt))) (lower-output (suc j) (v 0) (c 0) (r 0 (lit< tt)))
+        ap₂ (linkOf (lc d)) (lower-output (d .version) j (v 0) (c 0) (less j r 0 (lit< tt))) (lower-output (d .version) (suc j) (v 0) (c 0) (r 0 (lit< tt)))
 
     -- the turn of counter i, with a link that triggers nothing
     turn-again : (i : ℕ) → i < 3 → (k : Link) → k .trigger ≡ false → turnIn base i k (c i) ≡ quietly (lower 1 i)
         → turnIn (after j) i k (lower j i) ≡ quietly (lower (suc j) i)
     turn-again i h k t p =
-        same-lines i k (lower j i) ∙ again (counterEnabled d i) k (linesAt base i) (c i) t (small i h) (v i) j (one i h) (r i h) p
+        same-lines i k (lower j i) ∙ again (d .version) (counterEnabled d i) k (linesAt base i) (c i) t (small i h) (v i) j (one i h) (r i h) p
 
     turns-again : Turns d (lower j) (lower (suc j))
     turns-again =
         record {
           first = turn-again 0 (lit< tt) unlinked refl (turns .first);
           second = ap (λ (k : Link). turnIn (after j) 1 k (lower j 1)) is-steady
-              ∙ turn-again 1 (lit< tt) steady (no-trigger (lc d) (outputOf (c 0)))
+              ∙ turn-again 1 (lit< tt) steady (no-trigger (lc d) (outputOf (d .version) (c 0)))
               (ap (λ (k : Link). turnIn base 1 k (c 1)) (sym was-steady) ∙ turns .second);
           third = turn-again 2 (lit< tt) unlinked refl (turns .third);
         }

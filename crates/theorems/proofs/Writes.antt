@@ -2,12 +2,12 @@
 -- Assumes nothing.
 use Prim.Native.Nat.{ℕ, _/_, _<_}
 use mathlib.Core.Path.{_≡_, refl, sym, ap, subst}
-use mathlib.Core.Bool.{Bool, true, false, not, _&&_, _||_, So}
+use mathlib.Core.Bool.{Bool, true, false, not, _&&_, _||_, cond, So}
 use mathlib.Core.List.{[], _∷_}
 use native.Mathlib.Omega.{arith}
 use lib.Dec.{eqb, lit<}
 use lib.ListN.{getD, set}
-use borrow.Author.Tests.{eqb-true}
+use borrow.Author.Tests.{eqb-true, le-ltb}
 use Rattle.rules.specs.declared.Counter.{Counter}
 use Rattle.rules.specs.declared.Port.{Port}
 use Rattle.rules.specs.declared.Pattern.{Pattern}
@@ -27,7 +27,7 @@ use Rattle.rules.specs.Sound.{laterPort}
 use Rattle.rules.specs.Events.{outsideSet}
 use Rattle.basics.proofs.Tests.{right, never, by-test}
 use Rattle.basics.proofs.Places.{each2, each3, each5, set-keeps, set-gives}
-use Rattle.theorems.proofs.Parts.{SourceSound, CounterSound, FourBits, Cleared, Base}
+use Rattle.theorems.proofs.Parts.{Version, SourceSound, CounterSound, FourBits, Cleared, Base}
 use Rattle.theorems.proofs.Addresses.{laterKind}
 use Rattle.theorems.proofs.CounterLaws.{commanded-sound, enabled-sound, constant-sound, mode-sound}
 use Rattle.theorems.proofs.SourceLaws.{commanded-source, commanded-ip}
@@ -55,23 +55,29 @@ reset-cleared d =
       phase = refl;
     }
 
-idle-sound : (e : Bool) → CounterSound e idle
+idle-sound : (n : ℕ) (e : Bool) → CounterSound n e idle
 unfolding laterCounterMode
-idle-sound e = record { mode = refl; cip = λ p. never refl p; half = λ p. never refl p; frozen = λ _. refl }
+idle-sound n e = record { mode = refl; cip = λ p. never refl p; half = λ p. never refl p; frozen = λ _. refl; pulse = λ p. never refl p }
 
 quiet-sound : SourceSound quiet
 quiet-sound = record { err = λ p. p; hidden = λ p. p }
 
-pub reset-base : (d : Device) → portAt d 2 .outside < 16 → Base (resetOf d)
-unfolding resetOf laterConfig laterPortMode laterHandshake
-reset-base d h =
+-- a bit port is of either version
+blank-now : (n : ℕ) → laterPort n blank ≡ false
+unfolding laterPortMode laterHandshake
+blank-now n = simp (le-ltb (cond (eqb n 1) 0 1) 0 (omega arith))
+
+pub reset-base : (d : Device) → Version (d .version) → portAt d 2 .outside < 16 → Base (resetOf d)
+unfolding resetOf laterConfig
+reset-base d v h =
     record {
+      version = v;
       config = refl;
-      modes = each2 (λ p. laterPort (patternAt (resetOf d) p) ≡ false) refl refl;
+      modes = each2 (λ p. laterPort (d .version) (patternAt (resetOf d) p) ≡ false) (blank-now (d .version)) (blank-now (d .version));
       transfers =
           each2 (λ p. TransferAt (resetOf d) p (patternAt (resetOf d) p) (transferAt (resetOf d) p)) (vacant-sound _ _ _) (vacant-sound _ _ _);
       counters =
-          each3 (λ i. CounterSound (counterEnabled (resetOf d) i) (counterAt (resetOf d) i)) (idle-sound _) (idle-sound _) (idle-sound _);
+          each3 (λ i. CounterSound (d .version) (counterEnabled (resetOf d) i) (counterAt (resetOf d) i)) (idle-sound _ _) (idle-sound _ _) (idle-sound _ _);
       sources = each5 (λ k. SourceSound (sourceAt (resetOf d) k)) quiet-sound quiet-sound quiet-sound quiet-sound quiet-sound;
       four = record { polarity = lit< tt; direction = lit< tt; special = lit< tt; output = lit< tt; outside = h; catcher = lit< tt };
       held = λ _. reset-cleared d;
@@ -80,9 +86,10 @@ reset-base d h =
 pub master-base : (d : Device) (b : ℕ) → Base d → Base (masterWritten d b)
 unfolding masterWritten
 master-base d b h =
-    by-test Base (bit b 0) (resetOf d) (withMaster d b) (λ _. reset-base d (h .four .outside))
+    by-test Base (bit b 0) (resetOf d) (withMaster d b) (λ _. reset-base d (h .version) (h .four .outside))
     (λ z.
     record {
+      version = h .version;
       config = h .config;
       modes = h .modes;
       transfers = h .transfers;
@@ -128,13 +135,14 @@ module _ (d : Device) (h : Base d) (z : reset d ≡ false) where
   unfolding configWritten
   config-base b l =
       record {
+        version = h .version;
         config = l;
         modes = h .modes;
         transfers =
             each2 (λ p. TransferAt (configWritten d b) p (patternAt d p) (transferAt (configWritten d b) p))
             (kept-sound (portOn b 0) (h .transfers 0 (lit< tt))) (kept-sound (portOn b 1) (h .transfers 1 (lit< tt)));
         counters =
-            each3 (λ i. CounterSound (counterEnabled (configWritten d b) i) (counterAt (configWritten d b) i))
+            each3 (λ i. CounterSound (d .version) (counterEnabled (configWritten d b) i) (counterAt (configWritten d b) i))
             (enabled-sound (counterOn b 0) (counterAt d 0) (h .counters 0 (lit< tt)))
             (enabled-sound (counterOn b 1) (counterAt d 1) (h .counters 1 (lit< tt)))
             (enabled-sound (counterOn b 2) (counterAt d 2) (h .counters 2 (lit< tt)));
@@ -146,6 +154,7 @@ module _ (d : Device) (h : Base d) (z : reset d ≡ false) where
   vector-base : (v b : ℕ) → Base (withVector d v b)
   vector-base v b =
       record {
+        version = h .version;
         config = h .config;
         modes = h .modes;
         transfers = h .transfers;
@@ -160,7 +169,7 @@ module _ (d : Device) (h : Base d) (z : reset d ≡ false) where
       base-ports d (set (d .ports) p q) h
       (set-keeps (λ j r. So (eqb j 2) → FourBits r) (d .ports) p 2 q (bare 0) (λ g e. f e (g e)) (λ _. h .four) refl) (awake z)
 
-  counter-base : (i : ℕ) (c : Counter) → (CounterSound (counterEnabled d i) (counterAt d i) → CounterSound (counterEnabled d i) c)
+  counter-base : (i : ℕ) (c : Counter) → (CounterSound (d .version) (counterEnabled d i) (counterAt d i) → CounterSound (d .version) (counterEnabled d i) c)
       → Base (withCounter d i c)
   counter-base i c f = base-counter d i c h f (awake z)
 
@@ -172,7 +181,7 @@ module _ (d : Device) (h : Base d) (z : reset d ≡ false) where
   emptied : (p : ℕ) → Base (withTransfer d p vacant)
   emptied p = base-transfer d p vacant h (λ _. vacant-sound _ _ _) (awake z)
 
-  set-up-base : (p : ℕ) (q : Pattern) → (laterPort (patternAt d p) ≡ false → laterPort q ≡ false) → Base (setUp d p q)
+  set-up-base : (p : ℕ) (q : Pattern) → (laterPort (d .version) (patternAt d p) ≡ false → laterPort (d .version) q ≡ false) → Base (setUp d p q)
   set-up-base p q f =
       let e = withTransfer d p vacant in
       base-pattern e p q (emptied p) f
@@ -222,7 +231,7 @@ module _ (d : Device) (h : Base d) (z : reset d ≡ false) where
   written-base (CounterMode i) b l = counter-base i (withMode (counterAt d i) b) (mode-sound (counterAt d i) b l)
   written-base CurrentVector b l = h
   written-base (PortMode p) b l = set-up-base p (withPortMode (patternAt d p) b) (λ _. l)
-  written-base (Handshake p) b l = set-up-base p (withHandshake (patternAt d p) b) (λ m. neither (laterPortMode (patternAt d p .mode)) _ _ m l)
+  written-base (Handshake p) b l = set-up-base p (withHandshake (patternAt d p) b) (λ m. neither (laterPortMode (d .version) (patternAt d p .mode)) _ _ m l)
   written-base (PatternPolarity p) b l = pattern-base p _ refl refl
   written-base (Transition p) b l = pattern-base p _ refl refl
   written-base (Mask p) b l = pattern-base p _ refl refl

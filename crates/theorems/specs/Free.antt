@@ -1,12 +1,13 @@
--- Paper 01, "Counters", its last paragraph: a free-running counter over T n, by division; and paper 02, W-202: its lost terminals.
+-- Paper 01, "Counters", its last paragraph: a free-running counter over T n, by division; and paper 02, W-202: its lost terminals,
+-- W-205: its pulse.
 -- Assumes nothing.
 use Prim.Native.Nat.{ℕ, _+_, _-_, _/_, _%_}
 use mathlib.Core.Path.{_≡_}
-use mathlib.Core.Bool.{true, false, not, _||_, cond}
-use lib.Dec.{eqb, ltb}
+use mathlib.Core.Bool.{Bool, true, false, not, _&&_, _||_, cond}
+use lib.Dec.{eqb, ltb, leb}
 use Rattle.rules.specs.declared.Device.{Device}
 use Rattle.rules.specs.declared.Source.{Source}
-use Rattle.basics.specs.Signs.{if_then_else_}
+use Rattle.basics.specs.Signs.{if_then_else_, _==_}
 use Rattle.basics.specs.Byte.{bit, num}
 use Rattle.rules.specs.Record.{counterAt}
 use Rattle.rules.specs.Registers.{counterEnabled, lc}
@@ -50,3 +51,9 @@ freePlaces s = if not (s .ip) then 2 else if s .err || s .hidden then 0 else 1
 -- how many of n terminals the source loses
 unfoldable pub lostAfter : Source → ℕ → ℕ
 lostAfter s n = n - freePlaces s
+
+-- ---- the pulse, "high from a terminal count until the counter's next count clock .. that isn't itself terminal" (paper 02, W-205): in
+-- version 2, after k timer clocks, it is kept if there was none, else 1 exactly if the last was terminal (docs/DECISIONS.md, V10). Clock k is
+-- terminal where k is c, or c and some times t.
+unfoldable pub pulseAfter : ℕ → ℕ → Bool → ℕ → Bool
+pulseAfter c t pulse k = if k == 0 then pulse else leb c k && (k - c) % t == 0

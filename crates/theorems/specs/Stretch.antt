@@ -10,7 +10,7 @@ use Rattle.basics.specs.Signs.{if_then_else_}
 use Rattle.rules.specs.Record.{counterAt}
 use Rattle.rules.specs.With.{withCount, withCounters}
 
--- a counter k counts later, none of them terminal, if it moves
+-- a counter k counts later, none of them terminal, if it moves; its pulse is low before and after
 unfoldable pub lowerOf : ℕ → Bool → Counter → Counter
 lowerOf k moves c = if moves then withCount c (c .count - k) else c
 

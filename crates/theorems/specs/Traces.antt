@@ -1,6 +1,5 @@
 -- Events one after the other, each in the record that the one before it left.
 -- Assumes nothing.
-use mathlib.Core.Bool.{Bool, true, _&&_}
 use mathlib.Core.List.{List, [], _∷_, _++_}
 use Rattle.rules.specs.declared.Device.{Device}
 use Rattle.rules.specs.declared.Event.{Event}
@@ -34,8 +33,3 @@ cutBy f d l [] = tracedOf d l
 cutBy f d l (m ∷ ms) =
     let rest = cutBy f (f (recordAfter d l)) m ms in
     record { answers = answersOf d l ++ rest .answers; device = rest .device }
-
--- whether the record at each cut passes a test
-unfoldable pub atCuts : (Device → Bool) → Device → List Event → List (List Event) → Bool
-atCuts test d l [] = true
-atCuts test d l (m ∷ ms) = test (recordAfter d l) && atCuts test (recordAfter d l) m ms

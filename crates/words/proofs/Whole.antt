@@ -12,17 +12,18 @@ use Rattle.rules.specs.declared.Counter.{Counter}
 use Rattle.rules.specs.declared.Device.{Device}
 use Rattle.rules.specs.declared.Pattern.{Pattern}
 use Rattle.rules.specs.declared.Source.{Source}
-use Rattle.rules.specs.Record.{patternAt, sourceAt}
+use Rattle.rules.specs.declared.Transfer.{Transfer}
+use Rattle.rules.specs.Record.{patternAt, transferAt, sourceAt}
 use Rattle.rules.specs.Interrupts.{requester, acknowledge}
 use Rattle.texts.specs.Kept.{textRoom, noText, typed, bytesOf}
 use Rattle.texts.proofs.Keeping.{bytes-line}
 use Rattle.texts.specs.Spelled.{spelled}
 use Rattle.words.specs.Cells.{bitCell, yesCell, byteCell, numberCell}
-use Rattle.words.specs.Shown.{named, masterLine, linkLine, portLabels, portCell, portLine, patternLabels, patternMode}
+use Rattle.words.specs.Shown.{named, versionLine, masterLine, linkLine, portLabels, portCell, portLine, patternLabels, patternMode}
 use Rattle.words.specs.Shown.{patternCell, patternLine, counterLabels, modeCell, againCell, countsCell, halfCell, frozenCell, counterCell}
 use Rattle.words.specs.Shown.{counterColumn, counterLine, sourceLabels, sourceCell, sourceLine, levelsLine, requestLine, acknowledgeLine}
 use Rattle.words.specs.Shown.{headLine, tailLine, firstPort, firstPattern, counterHead, firstCounter, sourceHead, firstSource}
-use Rattle.words.specs.Shown.{lineEnd, firstTail, shownLine}
+use Rattle.words.specs.Shown.{transferLabels, transferCell, transferLine, firstTransfer, lineEnd, firstTail, shownLine}
 use Rattle.words.proofs.Rows.{width}
 
 -- the one or the other
@@ -69,6 +70,14 @@ pattern-cell q row =
     (pick 12 (row == 2) _ _ (byte-cell _)
     (pick 12 (row == 3) _ _ (byte-cell _) (bit-cell _))))
 
+transfer-cell : (h : Transfer) (row : ℕ) → length (transferCell h row) ≤ 12
+unfolding transferCell
+transfer-cell h row =
+    pick 12 (row == 0) _ _ (number-cell _)
+    (pick 12 (row == 1) _ _ (byte-cell _)
+    (pick 12 (row == 2) _ _ (byte-cell _)
+    (pick 12 (row == 3) _ _ (yes-cell _) (yes-cell _))))
+
 mode-cell : (mode : ℕ) → length (modeCell mode) ≤ 12
 unfolding modeCell spelled
 mode-cell mode = pick 12 (mode % 4 == 0) _ _ (omega arith) (pick 12 (mode % 4 == 1) _ _ (omega arith) (omega arith))
@@ -89,9 +98,9 @@ frozen-cell : (f : Bool) (n : ℕ) → length (frozenCell f n) ≤ 12
 unfolding frozenCell spelled
 frozen-cell f n = pick 12 f _ _ (number-cell n) (omega arith)
 
-counter-cell : (e : Bool) (c : Counter) (row : ℕ) → length (counterCell e c row) ≤ 12
+counter-cell : (v : ℕ) (e : Bool) (c : Counter) (row : ℕ) → length (counterCell v e c row) ≤ 12
 unfolding counterCell
-counter-cell e c row =
+counter-cell v e c row =
     pick 12 (row == 0) _ _ (yes-cell _)
     (pick 12 (row == 1) _ _ (mode-cell _)
     (pick 12 (row == 2) _ _ (again-cell _)
@@ -105,11 +114,12 @@ counter-cell e c row =
     (pick 12 (row == 10) _ _ (bit-cell _)
     (pick 12 (row == 11) _ _ (bit-cell _)
     (pick 12 (row == 12) _ _ (half-cell _)
-    (pick 12 (row == 13) _ _ (frozen-cell _ _) (bit-cell _))))))))))))))
+    (pick 12 (row == 13) _ _ (frozen-cell _ _)
+    (pick 12 (row == 14) _ _ (bit-cell _) (bit-cell _)))))))))))))))
 
 counter-column : (d : Device) (i row : ℕ) → length (counterColumn d i row) ≤ 12
 unfolding counterColumn
-counter-column d i row = counter-cell _ _ row
+counter-column d i row = counter-cell _ _ _ row
 
 source-cell : (s : Source) (row : ℕ) → length (sourceCell s row) ≤ 12
 unfolding sourceCell
@@ -124,6 +134,10 @@ pattern-label : (row : ℕ) → length (getD patternLabels row []) ≤ 16
 unfolding spelled
 pattern-label row = width 16 patternLabels row refl
 
+transfer-label : (row : ℕ) → length (getD transferLabels row []) ≤ 16
+unfolding spelled
+transfer-label row = width 16 transferLabels row refl
+
 counter-label : (row : ℕ) → length (getD counterLabels row []) ≤ 16
 unfolding spelled
 counter-label row = width 16 counterLabels row refl
@@ -133,6 +147,10 @@ unfolding spelled
 source-label row = width 16 sourceLabels row refl
 
 -- ---- lines
+version-line : (version : ℕ) → length (versionLine version) ≤ textRoom
+unfolding versionLine spelled
+version-line version = pick textRoom (version == 1) _ _ (omega arith) (omega arith)
+
 master-line : (m : ℕ) → length (masterLine m) ≤ textRoom
 unfolding masterLine named spelled
 master-line m = simp length-append (omega arith)
@@ -153,6 +171,12 @@ unfolding patternLine
 pattern-line d row =
     simp length-append
     (omega (arith, pattern-label row, pattern-cell (patternAt d 0) row, pattern-cell (patternAt d 1) row))
+
+transfer-line : (d : Device) (row : ℕ) → length (transferLine d row) ≤ textRoom
+unfolding transferLine
+transfer-line d row =
+    simp length-append
+    (omega (arith, transfer-label row, transfer-cell (transferAt d 0) row, transfer-cell (transferAt d 1) row))
 
 counter-line : (d : Device) (row : ℕ) → length (counterLine d row) ≤ textRoom
 unfolding counterLine
@@ -192,7 +216,10 @@ acknowledge-line d = simp length-append (omega (arith, given))
 
 head-line : (d : Device) (n : ℕ) → length (headLine d n) ≤ textRoom
 unfolding headLine spelled
-head-line d n = pick textRoom (n == 0) _ _ (master-line _) (pick textRoom (n == 1) _ _ (link-line _) (omega arith))
+head-line d n =
+    pick textRoom (n == 0) _ _ (version-line _)
+    (pick textRoom (n == 1) _ _ (master-line _)
+    (pick textRoom (n == 2) _ _ (link-line _) (omega arith)))
 
 tail-line : (d : Device) (n : ℕ) → length (tailLine d n) ≤ textRoom
 unfolding tailLine
@@ -203,11 +230,12 @@ unfolding shownLine spelled
 line-short d n =
     pick textRoom (ltb n firstPort) _ _ (head-line d n)
     (pick textRoom (ltb n firstPattern) _ _ (port-line d (n - firstPort))
-    (pick textRoom (ltb n counterHead) _ _ (pattern-line d (n - firstPattern))
+    (pick textRoom (ltb n firstTransfer) _ _ (pattern-line d (n - firstPattern))
+    (pick textRoom (ltb n counterHead) _ _ (transfer-line d (n - firstTransfer))
     (pick textRoom (ltb n firstCounter) _ _ (omega arith)
     (pick textRoom (ltb n sourceHead) _ _ (counter-line d (n - firstCounter))
     (pick textRoom (ltb n firstSource) _ _ (omega arith)
-    (pick textRoom (ltb n firstTail) _ _ (source-line d (n - firstSource)) (tail-line d (n - firstTail))))))))
+    (pick textRoom (ltb n firstTail) _ _ (source-line d (n - firstSource)) (tail-line d (n - firstTail)))))))))
 
 -- what is printed of a line is the line
 pub line-bytes : (d : Device) (n : ℕ) → bytesOf (typed noText (shownLine d n)) ≡ shownLine d n

@@ -9,10 +9,11 @@ use lib.ListN.{length, getD}
 use Rattle.rules.specs.declared.Counter.{Counter}
 use Rattle.rules.specs.declared.Pattern.{Pattern}
 use Rattle.rules.specs.declared.Source.{Source}
+use Rattle.rules.specs.declared.Transfer.{Transfer}
 use Rattle.rules.specs.declared.Device.{Device}
 use Rattle.basics.specs.Byte.{bit}
 use Rattle.basics.specs.Signs.{if_then_else_, _==_}
-use Rattle.rules.specs.Record.{portAt, patternAt, counterAt, sourceAt}
+use Rattle.rules.specs.Record.{portAt, patternAt, transferAt, counterAt, sourceAt}
 use Rattle.rules.specs.Registers.{portEnabled, counterEnabled, lc}
 use Rattle.rules.specs.Counters.{continuous, outputEnabled, countInput, triggerInput, gateInput, retrigger, outputOf}
 use Rattle.rules.specs.PortData.{pinsAt}
@@ -29,6 +30,10 @@ lineEnd = lineFeed ∷ []
 -- a name and its bit
 unfoldable pub named : List ℕ → Bool → List ℕ
 named w f = w ++ ((if f then code "1" else code "0") ∷ [])
+
+-- paper 02, W-205: "a version 1 image restores to a device that keeps the old rule"
+unfoldable pub versionLine : ℕ → List ℕ
+versionLine version = if version == 1 then spelled "version         1\n" else spelled "version         2\n"
 
 -- "MIE, DLC, NV, VIS A, VIS B, VIS CT, RJA (stored only), RESET from D7 down"
 unfoldable pub masterLine : ℕ → List ℕ
@@ -98,6 +103,27 @@ patternCell q row =
 unfoldable pub patternLine : Device → ℕ → List ℕ
 patternLine d row = getD patternLabels row [] ++ patternCell (patternAt d 0) row ++ patternCell (patternAt d 1) row ++ lineEnd
 
+-- ---- what the handshakes of ports A and B hold
+abbrev pub transferLabels : List (List ℕ)
+transferLabels =
+    spelled "handshake holds "
+    ∷ spelled "  front byte    "
+    ∷ spelled "  byte behind   "
+    ∷ spelled "  unfinished    "
+    ∷ spelled "  pair half done" ∷ []
+
+-- what stands beside each label, for a handshake
+unfoldable pub transferCell : Transfer → ℕ → List ℕ
+transferCell h row =
+    if row == 0 then numberCell (h .bytes) else
+    if row == 1 then byteCell (h .front) else
+    if row == 2 then byteCell (h .behind) else
+    if row == 3 then yesCell (h .unfinished) else
+    yesCell (h .pair)
+
+unfoldable pub transferLine : Device → ℕ → List ℕ
+transferLine d row = getD transferLabels row [] ++ transferCell (transferAt d 0) row ++ transferCell (transferAt d 1) row ++ lineEnd
+
 -- ---- the counters
 abbrev pub counterLabels : List (List ℕ)
 counterLabels =
@@ -115,6 +141,7 @@ counterLabels =
     ∷ spelled "in progress CIP "
     ∷ spelled "half            "
     ∷ spelled "frozen count    "
+    ∷ spelled "pulse bit       "
     ∷ spelled "output          " ∷ []
 
 -- "00 pulse, 01 one-shot, 10 square"
@@ -145,8 +172,8 @@ unfoldable pub frozenCell : Bool → ℕ → List ℕ
 frozenCell rcc n = if rcc then numberCell n else spelled "           -"
 
 -- what stands beside each label, for a counter
-unfoldable pub counterCell : Bool → Counter → ℕ → List ℕ
-counterCell enabled c row =
+unfoldable pub counterCell : ℕ → Bool → Counter → ℕ → List ℕ
+counterCell version enabled c row =
     if row == 0 then yesCell enabled else
     if row == 1 then modeCell (c .mode) else
     if row == 2 then againCell (continuous c) else
@@ -161,10 +188,11 @@ counterCell enabled c row =
     if row == 11 then bitCell (c .cip) else
     if row == 12 then halfCell (c .half) else
     if row == 13 then frozenCell (c .rcc) (c .frozen) else
-    bitCell (outputOf c)
+    if row == 14 then bitCell (c .pulse) else
+    bitCell (outputOf version c)
 
 unfoldable pub counterColumn : Device → ℕ → ℕ → List ℕ
-counterColumn d i row = counterCell (counterEnabled d i) (counterAt d i) row
+counterColumn d i row = counterCell (d .version) (counterEnabled d i) (counterAt d i) row
 
 unfoldable pub counterLine : Device → ℕ → List ℕ
 counterLine d row = getD counterLabels row [] ++ counterColumn d 0 row ++ counterColumn d 1 row ++ counterColumn d 2 row ++ lineEnd
@@ -208,11 +236,12 @@ unfoldable pub acknowledgeLine : Device → List ℕ
 acknowledgeLine d =
     spelled "K would give    " ++ (if ltb (requester d) 5 then byteCell (acknowledge d) ++ lineEnd else spelled "code 6\n")
 
--- ---- all of it: lines above the ports' columns, then ports, patterns, counters and sources, and lines below
+-- ---- all of it: lines above the ports' columns, then ports, patterns, handshakes, counters and sources, and lines below
 unfoldable pub headLine : Device → ℕ → List ℕ
 headLine d n =
-    if n == 0 then masterLine (d .master) else
-    if n == 1 then linkLine (lc d) else
+    if n == 0 then versionLine (d .version) else
+    if n == 1 then masterLine (d .master) else
+    if n == 2 then linkLine (lc d) else
     spelled "port                       A           B           C\n"
 
 unfoldable pub tailLine : Device → ℕ → List ℕ
@@ -220,13 +249,16 @@ tailLine d n = if n == 0 then levelsLine d else if n == 1 then requestLine (requ
 
 -- the first line of each
 abbrev pub firstPort : ℕ
-firstPort = 3
+firstPort = 4
 
 abbrev pub firstPattern : ℕ
 firstPattern = firstPort + length portLabels
 
+abbrev pub firstTransfer : ℕ
+firstTransfer = firstPattern + length patternLabels
+
 abbrev pub counterHead : ℕ
-counterHead = firstPattern + length patternLabels
+counterHead = firstTransfer + length transferLabels
 
 abbrev pub firstCounter : ℕ
 firstCounter = counterHead + 1
@@ -248,7 +280,8 @@ unfoldable pub shownLine : Device → ℕ → List ℕ
 shownLine d n =
     if ltb n firstPort then headLine d n else
     if ltb n firstPattern then portLine d (n - firstPort) else
-    if ltb n counterHead then patternLine d (n - firstPattern) else
+    if ltb n firstTransfer then patternLine d (n - firstPattern) else
+    if ltb n counterHead then transferLine d (n - firstTransfer) else
     if ltb n firstCounter then spelled "counter                  CT1         CT2         CT3\n" else
     if ltb n sourceHead then counterLine d (n - firstCounter) else
     if ltb n firstSource then spelled "source                   CT3           A         CT2           B         CT1\n" else

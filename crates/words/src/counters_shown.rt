@@ -29,7 +29,7 @@ const GATE_INPUT: u8 = 3;
 const RETRIGGER: u8 = 2;
 
 // How many facts a counter has.
-pub const ROWS: usize = 15;
+pub const ROWS: usize = 16;
 
 const LABELS: [[u8; 16]; ROWS] = [
     *b"enabled         ",
@@ -46,6 +46,7 @@ const LABELS: [[u8; 16]; ROWS] = [
     *b"in progress CIP ",
     *b"half            ",
     *b"frozen count    ",
+    *b"pulse bit       ",
     *b"output          ",
 ];
 
@@ -78,8 +79,8 @@ fn frozen_cell(t: Text, rcc: bool, n: u16) -> Text
     word(t, b"           -")
 }
 
-fn counter_cell(t: Text, enabled: bool, c: Counter, row: usize) -> Text
-    ensures { λ r. ⌜ r ≡ typed t (counterCell enabled c row) ⌝ }
+fn counter_cell(t: Text, version: u8, enabled: bool, c: Counter, row: usize) -> Text
+    ensures { λ r. ⌜ r ≡ typed t (counterCell version enabled c row) ⌝ }
 {
     match row {
         0 => yes_cell(t, enabled),
@@ -101,7 +102,8 @@ fn counter_cell(t: Text, enabled: bool, c: Counter, row: usize) -> Text
         11 => bit_cell(t, c.cip),
         12 => either(t, c.half, b"      second", b"       first"),
         13 => frozen_cell(t, c.rcc, c.frozen),
-        _ => bit_cell(t, counters::output(c)),
+        14 => bit_cell(t, c.pulse),
+        _ => bit_cell(t, counters::output(version, c)),
     }
 }
 
@@ -111,7 +113,7 @@ fn counter_column(t: Text, d: Device, i: usize, row: usize) -> Text
     ensures { λ r. ⌜ r ≡ typed t (counterColumn d i row) ⌝ }
 {
     let c = d.counters[i];
-    counter_cell(t, levels::counter_on(d.config, i), c, row)
+    counter_cell(t, d.version, levels::counter_on(d.config, i), c, row)
 }
 
 pub(crate) fn counter_line(d: Device, row: usize) -> Text

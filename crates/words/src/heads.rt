@@ -1,7 +1,7 @@
 // The lines that have no columns.
 ghost use mathlib.Core.Path.{_≡_};
 ghost use Rattle.texts.specs.Kept.{noText, typed};
-ghost use Rattle.words.specs.Shown.{masterLine, linkLine, levelsLine, requestLine, acknowledgeLine};
+ghost use Rattle.words.specs.Shown.{versionLine, masterLine, linkLine, levelsLine, requestLine, acknowledgeLine};
 use crate::cells::bit;
 use crate::cells::byte_cell;
 use crate::cells::named;
@@ -26,6 +26,16 @@ const VIS_CT: u8 = 2;
 const RJA: u8 = 1;
 
 const RESET: u8 = 0;
+
+pub(crate) fn version_line(version: u8) -> Text
+    ensures { λ r. ⌜ r ≡ typed noText (versionLine version) ⌝ }
+{
+    let t = texts::no_text();
+    if version == 1 {
+        return word(t, b"version         1\n");
+    }
+    word(t, b"version         2\n")
+}
 
 pub(crate) fn master_line(m: u8) -> Text
     ensures { λ r. ⌜ r ≡ typed noText (masterLine m) ⌝ }

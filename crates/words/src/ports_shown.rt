@@ -2,21 +2,25 @@
 ghost use mathlib.Core.Path.{_≡_};
 ghost use Prim.Native.Nat.{_<_};
 ghost use Rattle.texts.specs.Kept.{noText, typed};
-ghost use Rattle.words.specs.Shown.{portCell, portLine, patternMode, patternCell, patternLine};
+ghost use Rattle.words.specs.Shown.{portCell, portLine, patternMode, patternCell, patternLine, transferCell, transferLine};
 use crate::cells::bit_cell;
 use crate::cells::byte_cell;
 use crate::cells::label;
+use crate::cells::number_cell;
 use crate::cells::yes_cell;
 use phrases::word;
 use rules::Device;
 use rules::Pattern;
+use rules::Transfer;
 use texts::Text;
 use texts::push;
 
-// How many facts a port has, and a pattern.
+// How many facts a port has, a pattern, and what a handshake holds.
 pub const PORT_ROWS: usize = 7;
 
 pub const PATTERN_ROWS: usize = 5;
+
+pub const TRANSFER_ROWS: usize = 5;
 
 const PORT_LABELS: [[u8; 16]; PORT_ROWS] = [
     *b"enabled         ",
@@ -91,4 +95,34 @@ pub(crate) fn pattern_line(d: Device, row: usize) -> Text
     let t = label(&PATTERN_LABELS, row);
     let a = pattern_cell(t, qa, row);
     push(pattern_cell(a, qb, row), b'\n')
+}
+
+const TRANSFER_LABELS: [[u8; 16]; TRANSFER_ROWS] = [
+    *b"handshake holds ",
+    *b"  front byte    ",
+    *b"  byte behind   ",
+    *b"  unfinished    ",
+    *b"  pair half done",
+];
+
+fn transfer_cell(t: Text, h: Transfer, row: usize) -> Text
+    ensures { λ r. ⌜ r ≡ typed t (transferCell h row) ⌝ }
+{
+    match row {
+        0 => number_cell(t, h.bytes as u32),
+        1 => byte_cell(t, h.front),
+        2 => byte_cell(t, h.behind),
+        3 => yes_cell(t, h.unfinished),
+        _ => yes_cell(t, h.pair),
+    }
+}
+
+pub(crate) fn transfer_line(d: Device, row: usize) -> Text
+    ensures { λ r. ⌜ r ≡ typed noText (transferLine d row) ⌝ }
+{
+    let ha = d.transfers[0];
+    let hb = d.transfers[1];
+    let t = label(&TRANSFER_LABELS, row);
+    let a = transfer_cell(t, ha, row);
+    push(transfer_cell(a, hb, row), b'\n')
 }

@@ -9,10 +9,13 @@ use crate::heads::levels_line;
 use crate::heads::link_line;
 use crate::heads::master_line;
 use crate::heads::request_line;
+use crate::heads::version_line;
 use crate::ports_shown::PATTERN_ROWS;
 use crate::ports_shown::PORT_ROWS;
+use crate::ports_shown::TRANSFER_ROWS;
 use crate::ports_shown::pattern_line;
 use crate::ports_shown::port_line;
+use crate::ports_shown::transfer_line;
 use crate::sources_shown::ROWS as SOURCE_ROWS;
 use crate::sources_shown::source_line;
 use phrases::word;
@@ -20,11 +23,13 @@ use rules::Device;
 use texts::Text;
 
 // The first line of each part, and how many lines there are.
-const PORTS: usize = 3;
+const PORTS: usize = 4;
 
 const PATTERNS: usize = PORTS + PORT_ROWS;
 
-const COUNTER_HEAD: usize = PATTERNS + PATTERN_ROWS;
+const TRANSFERS: usize = PATTERNS + PATTERN_ROWS;
+
+const COUNTER_HEAD: usize = TRANSFERS + TRANSFER_ROWS;
 
 const COUNTERS: usize = COUNTER_HEAD + 1;
 
@@ -41,8 +46,9 @@ fn head_line(d: Device, n: usize) -> Text
     ensures { λ r. ⌜ r ≡ typed noText (headLine d n) ⌝ }
 {
     match n {
-        0 => master_line(d.master),
-        1 => link_line(d.config % 4),
+        0 => version_line(d.version),
+        1 => master_line(d.master),
+        2 => link_line(d.config % 4),
         _ => word(
             texts::no_text(),
             b"port                       A           B           C\n",
@@ -71,8 +77,11 @@ pub fn line(d: Device, n: usize) -> Text
     if n < PATTERNS {
         return port_line(d, n - PORTS);
     }
-    if n < COUNTER_HEAD {
+    if n < TRANSFERS {
         return pattern_line(d, n - PATTERNS);
+    }
+    if n < COUNTER_HEAD {
+        return transfer_line(d, n - TRANSFERS);
     }
     if n < COUNTERS {
         return word(

@@ -40,6 +40,7 @@ fn enable(v: bool, c: Counter) -> Counter
     let mut off = c;
     off.cip = false;
     off.half = false;
+    off.pulse = false;
     off
 }
 

@@ -14,12 +14,27 @@ pins-clear-requires c κs = tt
 lines-clear-requires : tie.Need-lines-clear-requires
 lines-clear-requires c κs = tt
 
+transfers-clear-requires : tie.Need-transfers-clear-requires
+transfers-clear-requires c κs = tt
+
+irf-agrees-requires : tie.Need-irf-agrees-requires
+irf-agrees-requires c κs = tt
+
 returns : tie.Need-returns
 unfolding unusedClear
 returns c =
-    let pins = c .before in
+    let transfers = c .before in
+    let lines = transfers .before in
+    let pins = lines .before in
     let counts = pins .before in
-    simp (c .lines-clear .ensures, pins .pins-clear .ensures, counts .counts-clear .ensures, counts .before .registers-clear .ensures)
+    simp (
+      c .irf-agrees .ensures,
+      transfers .transfers-clear .ensures,
+      lines .lines-clear .ensures,
+      pins .pins-clear .ensures,
+      counts .counts-clear .ensures,
+      counts .before .registers-clear .ensures,
+    )
 
 pub clear-spec : {M : Type 1} → statement M
 clear-spec =
@@ -29,4 +44,6 @@ clear-spec =
     counts-clear-requires
     pins-clear-requires
     lines-clear-requires
+    transfers-clear-requires
+    irf-agrees-requires
     returns)

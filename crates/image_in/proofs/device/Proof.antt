@@ -14,12 +14,16 @@ read-pins-requires c κs = tt
 read-lines-requires : tie.Need-read-lines-requires
 read-lines-requires c κs = tt
 
+read-transfers-requires : tie.Need-read-transfers-requires
+read-transfers-requires c κs = tt
+
 returns : tie.Need-returns
 unfolding recordIn
 returns c =
-    let pins = c .before in
+    let lines = c .before in
+    let pins = lines .before in
     let counts = pins .before in
-    simp (c .read-lines .ensures, pins .read-pins .ensures, counts .read-counts .ensures, counts .before .read-registers .ensures)
+    simp (c .read-transfers .ensures, lines .read-lines .ensures, pins .read-pins .ensures, counts .read-counts .ensures, counts .before .read-registers .ensures)
 
 pub device-spec : {M : Type 1} → statement M
 device-spec =
@@ -29,4 +33,5 @@ device-spec =
     read-counts-requires
     read-pins-requires
     read-lines-requires
+    read-transfers-requires
     returns)

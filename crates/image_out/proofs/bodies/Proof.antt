@@ -13,13 +13,17 @@ pins-requires c κs = tt
 lines-requires : tie.Need-lines-requires
 lines-requires c κs = tt
 
+transfers-requires : tie.Need-transfers-requires
+transfers-requires c κs = tt
+
 returns : tie.Need-returns
 returns c =
-    let pins = c .before in
+    let lines = c .before in
+    let pins = lines .before in
     let counts = pins .before in
     let registers = counts .before in
-    simp (c .lines .ensures, pins .pins .ensures, counts .counts .ensures, registers .registers .ensures)
+    simp (c .transfers .ensures, lines .lines .ensures, pins .pins .ensures, counts .counts .ensures, registers .registers .ensures)
 
 pub bodies-spec : {M : Type 1} → statement M
 bodies-spec =
-    tie.close (tie.spec registers-requires counts-requires pins-requires lines-requires returns)
+    tie.close (tie.spec registers-requires counts-requires pins-requires lines-requires transfers-requires returns)

@@ -24,19 +24,19 @@ same-sources-requires c κs = search needs
 returns : tie.Need-returns
 unfolding sameOf
 returns c =
-    let b8 = c .before .before .before .before .before .before .before .before in
-    let b9 = b8 .before in
-    let b10 = b9 .before in
+    let b10 = c .before .before .before .before .before .before .before .before .before .before in
     let b11 = b10 .before in
     let b12 = b11 .before in
     let b13 = b12 .before in
+    let b14 = b13 .before in
+    let b15 = b14 .before in
     simp (
-      b13 .same-vectors .ensures,
-      b12 .same-ports .ensures,
-      b11 .same-patterns .ensures,
-      b10 .same-transfers .ensures,
-      b9 .same-counters .ensures,
-      b8 .same-sources .ensures,
+      b15 .same-vectors .ensures,
+      b14 .same-ports .ensures,
+      b13 .same-patterns .ensures,
+      b12 .same-transfers .ensures,
+      b11 .same-counters .ensures,
+      b10 .same-sources .ensures,
     )
 
 pub same-spec : {M : Type 1} → statement M

@@ -24,9 +24,18 @@ add-bit-at c = search needs
 bit-at-requires : tie.Need-bit-at-requires
 bit-at-requires c κs = search needs
 
+mul-bit-at-2 : tie.Need-mul-bit-at-2
+mul-bit-at-2 c = search needs
+
+add-bit-at-2 : tie.Need-add-bit-at-2
+add-bit-at-2 c = search needs
+
+bit-at-requires-2 : tie.Need-bit-at-requires-2
+bit-at-requires-2 c κs = search needs
+
 returns : tie.Need-returns
 unfolding counterWith
-returns c = simp (c .bit-at .ensures, c .before .word-at .ensures)
+returns c = simp (c .bit-at2 .ensures, c .before .bit-at .ensures, c .before .before .word-at .ensures)
 
 pub counter-with-spec : {M : Type 1} → statement M
 counter-with-spec =
@@ -39,4 +48,7 @@ counter-with-spec =
     mul-bit-at
     add-bit-at
     bit-at-requires
+    mul-bit-at-2
+    add-bit-at-2
+    bit-at-requires-2
     returns)

@@ -27,8 +27,8 @@ byte-in-requires c κs = tt
 byte-in-requires-2 : tie.Need-byte-in-requires-2
 byte-in-requires-2 c κs = tt
 
-flags-requires : tie.Need-flags-requires
-flags-requires c κs = tt
+counter-flags-requires : tie.Need-counter-flags-requires
+counter-flags-requires c κs = tt
 
 byte-in-requires-3 : tie.Need-byte-in-requires-3
 byte-in-requires-3 c κs = tt
@@ -36,8 +36,8 @@ byte-in-requires-3 c κs = tt
 byte-in-requires-4 : tie.Need-byte-in-requires-4
 byte-in-requires-4 c κs = tt
 
-flags-requires-2 : tie.Need-flags-requires-2
-flags-requires-2 c κs = tt
+counter-flags-requires-2 : tie.Need-counter-flags-requires-2
+counter-flags-requires-2 c κs = tt
 
 byte-in-requires-5 : tie.Need-byte-in-requires-5
 byte-in-requires-5 c κs = tt
@@ -45,8 +45,8 @@ byte-in-requires-5 c κs = tt
 byte-in-requires-6 : tie.Need-byte-in-requires-6
 byte-in-requires-6 c κs = tt
 
-flags-requires-3 : tie.Need-flags-requires-3
-flags-requires-3 c κs = tt
+counter-flags-requires-3 : tie.Need-counter-flags-requires-3
+counter-flags-requires-3 c κs = tt
 
 returns : tie.Need-returns
 unfolding countsBody flagsOf
@@ -54,13 +54,13 @@ returns c =
     let of-2 = c .before .before .before in
     let of-1 = of-2 .before .before .before in
     simp (
-      c .flags3 .ensures,
+      c .counter-flags3 .ensures,
       c .before .byte-in6 .ensures,
       c .before .before .byte-in5 .ensures,
-      of-2 .flags2 .ensures,
+      of-2 .counter-flags2 .ensures,
       of-2 .before .byte-in4 .ensures,
       of-2 .before .before .byte-in3 .ensures,
-      of-1 .flags .ensures,
+      of-1 .counter-flags .ensures,
       of-1 .before .byte-in2 .ensures,
       of-1 .before .before .byte-in .ensures,
     )
@@ -77,11 +77,11 @@ counts-spec =
     element-copy-out-ct1
     byte-in-requires
     byte-in-requires-2
-    flags-requires
+    counter-flags-requires
     byte-in-requires-3
     byte-in-requires-4
-    flags-requires-2
+    counter-flags-requires-2
     byte-in-requires-5
     byte-in-requires-6
-    flags-requires-3
+    counter-flags-requires-3
     returns)

@@ -24,10 +24,10 @@ returns c =
     let at-enabled = at-if .before in
     let a = at-enabled .before .args in
     simp (c .spread .ensures, c .before .output .ensures, at-place .place .ensures)
-    (stand-bits (a .c) (cond (a .high) 4 0) (a .x) (search needs) (sym (at-enabled .output-enabled .ensures) ∙ at-if .if1 .taken))
+    (stand-bits (a .version) (a .c) (cond (a .high) 4 0) (a .x) (search needs) (sym (at-enabled .output-enabled .ensures) ∙ at-if .if1 .taken))
 
 returns-2 : tie.Need-returns-2
-returns-2 c = kept-bits _ _ _ (search needs) (sym (c .before .output-enabled .ensures) ∙ c .if1 .left)
+returns-2 c = kept-bits _ _ _ _ (search needs) (sym (c .before .output-enabled .ensures) ∙ c .if1 .left)
 
 pub stand-spec : {M : Type 1} → statement M
 stand-spec =

@@ -3,6 +3,9 @@ use borrow.Author.Needs.{needs}
 use Rattle.refusals.proofs.soundness.sound.Statement.{statement}
 use Rattle.refusals.proofs.soundness.sound.Tie as tie
 
+sound-version-requires : tie.Need-sound-version-requires
+sound-version-requires c κs = search needs
+
 no-later-requires : tie.Need-no-later-requires
 no-later-requires c κs = search needs
 
@@ -33,6 +36,7 @@ returns c =
     let b5 = b4 .before in
     let b6 = b5 .before in
     simp (
+      b6 .before .sound-version .ensures,
       b6 .no-later .ensures,
       b5 .sound-sources .ensures,
       b4 .sound-counters .ensures,
@@ -46,6 +50,7 @@ pub sound-spec : {M : Type 1} → statement M
 sound-spec =
     tie.close
     (tie.spec
+    sound-version-requires
     no-later-requires
     sound-sources-requires
     sound-counters-requires

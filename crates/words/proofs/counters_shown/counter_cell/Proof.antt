@@ -71,11 +71,14 @@ either-requires-3 c κs = search needs
 frozen-cell-requires : tie.Need-frozen-cell-requires
 frozen-cell-requires c κs = search needs
 
+bit-cell-requires-3 : tie.Need-bit-cell-requires-3
+bit-cell-requires-3 c κs = search needs
+
 output-requires : tie.Need-output-requires
 output-requires c κs = search needs
 
-bit-cell-requires-3 : tie.Need-bit-cell-requires-3
-bit-cell-requires-3 c κs = search needs
+bit-cell-requires-4 : tie.Need-bit-cell-requires-4
+bit-cell-requires-4 c κs = search needs
 
 returns : tie.Need-returns
 unfolding counterCell
@@ -135,10 +138,14 @@ returns-14 c = simp (c .frozen-cell .ensures, c .before .match .keys14)
 
 returns-15 : tie.Need-returns-15
 unfolding counterCell
-returns-15 c =
+returns-15 c = simp (c .bit-cell3 .ensures, c .before .match .keys15)
+
+returns-16 : tie.Need-returns-16
+unfolding counterCell
+returns-16 c =
     let other = c .before .before .match .rest in
     simp (
-      c .bit-cell3 .ensures,
+      c .bit-cell4 .ensures,
       c .before .output .ensures,
       ne-eqb _ _ (other .1),
       ne-eqb _ _ (other .0 .1),
@@ -154,6 +161,7 @@ returns-15 c =
       ne-eqb _ _ (other .0 .0 .0 .0 .0 .0 .0 .0 .0 .0 .0 .1),
       ne-eqb _ _ (other .0 .0 .0 .0 .0 .0 .0 .0 .0 .0 .0 .0 .1),
       ne-eqb _ _ (other .0 .0 .0 .0 .0 .0 .0 .0 .0 .0 .0 .0 .0 .1),
+      ne-eqb _ _ (other .0 .0 .0 .0 .0 .0 .0 .0 .0 .0 .0 .0 .0 .0 .1),
     )
 
 pub counter-cell-spec : {M : Type 1} → statement M
@@ -182,8 +190,9 @@ counter-cell-spec =
     bit-cell-requires-2
     either-requires-3
     frozen-cell-requires
-    output-requires
     bit-cell-requires-3
+    output-requires
+    bit-cell-requires-4
     returns
     returns-2
     returns-3
@@ -198,4 +207,5 @@ counter-cell-spec =
     returns-12
     returns-13
     returns-14
-    returns-15)
+    returns-15
+    returns-16)

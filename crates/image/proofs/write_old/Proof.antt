@@ -5,16 +5,15 @@ use denote.Ref.{now}
 use native.Mathlib.Nat.{le-trans}
 use lib.Dec.{lit≤}
 use lib.ListN.{length, drop}
-use Rattle.rules.specs.Record.{imageLen}
 use Rattle.bodies.specs.declared.Bodies.{Bodies}
-use Rattle.bodies.specs.Layout.{layout1, contentsOf}
+use Rattle.bodies.specs.Layout.{layout1, lengthOf, contentsOf}
 use Rattle.bodies.specs.Written.{registersBody, countsBody, pinsBody, linesBody}
 use Rattle.bodies.proofs.Laid.{none, more}
 use Rattle.bodies.proofs.Lists.{registers-length}
-use Rattle.bodies.proofs.Whole.{image-laid}
+use Rattle.bodies.proofs.Whole.{image-laid-1}
 use borrow.Author.Needs.{needs}
-use Rattle.image.proofs.write.Statement.{statement}
-use Rattle.image.proofs.write.Tie as tie
+use Rattle.image.proofs.write_old.Statement.{statement}
+use Rattle.image.proofs.write_old.Tie as tie
 
 bodies-requires : tie.Need-bodies-requires
 bodies-requires c κs = tt
@@ -50,7 +49,7 @@ returns c =
     let table = registers .before .before .before .before .before .before .before in
     let made = table .before .before .before in
     let a = made .before .before .args in
-    let room = made .before .before .pre in
+    let room = made .before .before .pre .0 in
     let b = made .bodies .result in
     let is = made .bodies .ensures in
     let l1 = more (contentsOf layout1) 18 refl (le-trans (lit≤ tt) room) (none (now (a .buf))) (table .lay .ensures .0) in
@@ -59,12 +58,12 @@ returns c =
     let l3 = more (b .counts) 9 (ap (λ (x : Bodies). length (x .counts)) is) (le-trans (lit≤ tt) room) l2 (counts .lay3 .ensures .0) in
     let l4 = more (b .pins) 7 (ap (λ (x : Bodies). length (x .pins)) is) (le-trans (lit≤ tt) room) l3 (pins .lay4 .ensures .0) in
     let l5 = more (b .lines) 2 (ap (λ (x : Bodies). length (x .lines)) is) (le-trans (lit≤ tt) room) l4 (lines .lay5 .ensures .0) in
-    let rest = drop imageLen (now (a .buf)) in
+    let rest = drop (lengthOf layout1) (now (a .buf)) in
     l5 .holds ∙ ap (λ (x : Bodies). contentsOf layout1 ++ x .registers ++ x .counts ++ x .pins ++ x .lines ++ rest) is
-    ∙ ap (λ (l : List ℕ). l ++ rest) (image-laid (a .d))
+    ∙ ap (λ (l : List ℕ). l ++ rest) (image-laid-1 (a .d) (made .before .before .pre .1))
 
-pub write-spec : {M : Type 1} → statement M
-write-spec =
+pub write-old-spec : {M : Type 1} → statement M
+write-old-spec =
     tie.close
     (tie.spec
     bodies-requires

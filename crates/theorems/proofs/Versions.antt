@@ -1,0 +1,160 @@
+-- Paper 02, W-205: every event keeps the version, a reset too; and what a sound record of version 1 has not.
+-- Assumes nothing.
+use Prim.Native.Nat.{ℕ, zero, suc, _+_, _*_, _/_, _<_}
+use mathlib.Core.Path.{_≡_, refl, ap, subst, _∙_}
+use mathlib.Core.Bool.{Bool, true, false, not, _&&_, _||_, So}
+use mathlib.Core.List.{List, [], _∷_}
+use native.Mathlib.Omega.{arith}
+use lib.Dec.{eqb}
+use borrow.Author.Tests.{ltb-false, le-ltb, ne-eqb}
+use Rattle.rules.specs.declared.Device.{Device}
+use Rattle.rules.specs.declared.Ran.{Ran}
+use Rattle.rules.specs.declared.Event.{Event}
+use Rattle.rules.specs.declared.Effect.{Effect}
+use Rattle.rules.specs.declared.Outcome.{Outcome}
+use Rattle.rules.specs.declared.Kind.{Kind}
+use Rattle.rules.specs.declared.Kind.the-variants.{Master, Config, Vector, Polarity, Direction, Special, PortCommand, CounterCommand}
+use Rattle.rules.specs.declared.Kind.the-variants.{Data, Current, Constant, CounterMode, CurrentVector, PortMode, Handshake, PatternPolarity, Transition, Mask, Absent}
+use Rattle.basics.specs.Signs.{within}
+use Rattle.basics.specs.Byte.{bit}
+use Rattle.basics.specs.Iterate.{iterate}
+use Rattle.rules.specs.Record.{patternAt, counterAt, resetOf, freshOf}
+use Rattle.rules.specs.With.{withMaster, withPhase}
+use Rattle.rules.specs.Report.{noReport}
+use Rattle.rules.specs.Registers.{reset, kindOf, readOnly, laterPortMode, later}
+use Rattle.rules.specs.Handshakes.{handshakes}
+use Rattle.rules.specs.Step.{stepOf, reported, clockOf, ranOf}
+use Rattle.rules.specs.Interrupts.{acknowledged}
+use Rattle.rules.specs.Moves.{worksAt, ackinAt, strobes, takenAt, movesAt, movesOf, givenAt}
+use Rattle.rules.specs.Access.{readsByte, afterRead, masterWritten, configWritten, portCommanded, counterCommanded, writtenOf}
+use Rattle.rules.specs.Sound.{soundOf}
+use Rattle.rules.specs.Events.{isX, isW, isR, isP, isT, isK, unknown, noRegister, tooLarge, held, noByte, codeOf}
+use Rattle.rules.specs.Events.{writeEffect, readEffect, outsideSet, pinsEffect, clocksEffect, acknowledgeEffect, ieiEffect, effectOf, outcomeOf, eventOf}
+use Rattle.basics.proofs.Tests.{left, never, by-test}
+use Rattle.basics.proofs.Places.{each2}
+use Rattle.theorems.specs.Traces.{recordAfter}
+use Rattle.theorems.specs.Used.{of}
+use Rattle.theorems.proofs.Clauses.{sound-parts}
+use Rattle.theorems.proofs.Refusals.{ways, code-is}
+use Rattle.theorems.proofs.Frame.{frame-step}
+use Rattle.theorems.proofs.Reports.{clock-held, clock-first, clock-timer}
+
+-- fresh devices are of version 2
+pub fresh-version : freshOf .version ≡ 2
+fresh-version = refl
+
+-- ---- the clock
+abbrev versionIn : Ran → ℕ
+versionIn s = s .device .version
+
+clock-by : (v p : Bool) (s : Ran) → reset (s .device) ≡ v → s .device .phase ≡ p → versionIn (clockOf s) ≡ versionIn s
+unfolding reported
+clock-by true p s e q = ap versionIn (clock-held s e)
+clock-by false false s e q = ap versionIn (clock-first s e q)
+clock-by false true s e q = ap versionIn (clock-timer s e q) ∙ frame-step true (s .device) (withPhase (s .device) false) .version
+
+clocks-by : (n : ℕ) (s : Ran) → versionIn (iterate n clockOf s) ≡ versionIn s
+unfolding iterate
+clocks-by zero s = refl
+clocks-by (suc n) s = clock-by _ _ (iterate n clockOf s) refl refl ∙ clocks-by n s
+
+pub ran-version : (n : ℕ) (d : Device) → ranOf n d .device .version ≡ d .version
+unfolding ranOf
+ran-version n d = clocks-by n (record { device = d; report = noReport })
+
+-- ---- the other events: all have the version of d
+module _ (d : Device) where
+  abbrev Kept : Device → Type 0
+  Kept e = e .version ≡ d .version
+
+  moves-at : (p : ℕ) (d0 e : Device) → Kept e → Kept (movesAt p d0 e)
+  unfolding movesAt takenAt
+  moves-at p d0 e h = by-test Kept (strobes d0 e p) _ _ (λ _. h) (λ _. by-test Kept (worksAt e p && ackinAt e p) _ e (λ _. h) (λ _. h))
+
+  -- (a), with its moves, and the step
+  moved : (e : Device) → Kept e → Kept (stepOf false d (movesOf d e) .device)
+  unfolding movesOf
+  moved e h = frame-step false d (movesOf d e) .version ∙ moves-at 1 d (movesAt 0 d e) (moves-at 0 d e h)
+
+  written : (k : Kind) (b : ℕ) → Kept (writtenOf d k b)
+  unfolding writtenOf masterWritten resetOf configWritten portCommanded counterCommanded
+  written Master b = by-test Kept (bit b 0) (resetOf d) (withMaster d b) (λ _. refl) (λ _. refl)
+  written Config b = refl
+  written (Vector v) b = refl
+  written (Polarity p) b = refl
+  written (Direction p) b = refl
+  written (Special p) b = refl
+  written (PortCommand p) b = refl
+  written (CounterCommand i) b = refl
+  written (Data p) b = refl
+  written (Current i high) b = refl
+  written (Constant i high) b = refl
+  written (CounterMode i) b = refl
+  written CurrentVector b = refl
+  written (PortMode p) b = refl
+  written (Handshake p) b = refl
+  written (PatternPolarity p) b = refl
+  written (Transition p) b = refl
+  written (Mask p) b = refl
+  written Absent b = refl
+
+  after-read : (a : ℕ) → Kept (afterRead d a)
+  unfolding afterRead givenAt
+  after-read a =
+      by-test Kept (within 0x10 0x15 a && bit a 0) _ _ (λ _. refl) (λ _. by-test Kept (readsByte d a) _ d (λ _. refl) (λ _. refl))
+
+  abbrev KeptBy : Effect → Type 0
+  KeptBy r = Kept (r .device)
+
+  effect-kept : (e : Event) → KeptBy (effectOf d e)
+  unfolding effectOf resetOf writeEffect readEffect pinsEffect outsideSet clocksEffect acknowledgeEffect acknowledged ieiEffect
+  effect-kept e =
+      by-test KeptBy (isX e) _ _ (λ _. refl)
+      (λ _.
+      by-test KeptBy (isW e) _ _
+      (λ _. by-test KeptBy (reset d && not (eqb (e .a) 0)) _ _ (λ _. refl) (λ _. moved (writtenOf d (kindOf (e .a)) (e .b)) (written (kindOf (e .a)) (e .b))))
+      (λ _.
+      by-test KeptBy (isR e) _ _ (λ _. by-test KeptBy (reset d && not (eqb (e .a) 0)) _ _ (λ _. refl) (λ _. after-read (e .a)))
+      (λ _.
+      by-test KeptBy (isP e) _ _ (λ _. moved (outsideSet d (e .a) (e .b) (e .c)) refl)
+      (λ _. by-test KeptBy (isT e) _ _ (λ _. ran-version (e .a) d) (λ _. by-test KeptBy (isK e) _ _ (λ _. refl) (λ _. refl))))))
+
+-- ---- every event keeps the version, whatever the record
+pub version-kept : (d : Device) (e : Event) → eventOf d e .device .version ≡ d .version
+unfolding outcomeOf
+version-kept d e = ways d e (λ (o : Outcome). o .device .version ≡ d .version) (λ _. refl) (λ _. effect-kept d e) (λ _. refl)
+
+-- and so do any events, one after another
+pub list-version : (d : Device) (l : List Event) → recordAfter d l .version ≡ d .version
+unfolding recordAfter
+list-version d [] = refl
+list-version d (e ∷ l) = list-version (eventOf d e .device) l ∙ version-kept d e
+
+-- ---- a sound device of version 1 has no pulse and no port with handshake
+no-pulse-by : (v e b : Bool) → (So b → So (v && e)) → v ≡ false → b ≡ false
+no-pulse-by v e true f z = never z (left v e (f refl))
+no-pulse-by v e false f z = refl
+
+pub no-pulse : (d : Device) (i : ℕ) → i < 3 → soundOf d ≡ true → d .version ≡ 1 → counterAt d i .pulse ≡ false
+no-pulse d i h s v = no-pulse-by (eqb (d .version) 2) _ _ (sound-parts d s .base .counters i h .pulse) (ap (λ (n : ℕ). eqb n 2) v)
+
+none-of : (a b : Bool) → (a || b) ≡ false → a ≡ false
+none-of true b h = h
+none-of false b h = refl
+
+no-handshake-by : (n m : ℕ) (b : Bool) → (laterPortMode n m || b) ≡ false → n ≡ 1 → eqb (m / 64) 1 ≡ false
+unfolding laterPortMode
+no-handshake-by n m b h v =
+    let l = ltb-false 0 (m / 64) (none-of _ _ (none-of _ _ (none-of _ b (subst (λ (n : ℕ). (laterPortMode n m || b) ≡ false) v h)))) in
+    ne-eqb (m / 64) 1 (λ e. omega arith)
+
+pub no-handshake : (d : Device) (p : ℕ) → p < 2 → soundOf d ≡ true → d .version ≡ 1 → handshakes (patternAt d p) ≡ false
+no-handshake d p h s v = no-handshake-by (d .version) _ _ (sound-parts d s .base .modes p h) v
+
+-- and refuses to have one: W 20H or 28H with D7-D6 = 01 is refused with 4
+pub handshake-refused : (d : Device) (p b : ℕ) → p < 2 → b < 256 → b / 64 ≡ 1 → d .version ≡ 1 → reset d ≡ false → soundOf d ≡ true
+    → eventOf d (of 1 (0x20 + 8 * p) b 0) .answer .code ≡ 4
+unfolding codeOf unknown noRegister tooLarge held noByte later laterPortMode readOnly
+handshake-refused d p b h l m v r s =
+    let small = le-ltb 255 b (omega arith) in
+    code-is d _ ∙ each2 (λ p. codeOf d (of 1 (0x20 + 8 * p) b 0) ≡ 4) (simp (s, small, r, v, m)) (simp (s, small, r, v, m)) p h
