@@ -7,9 +7,9 @@ use native.Mathlib.Nat.{div-add-mod'}
 use lib.Arith.{digits-div, digits-mod}
 use lib.Dec.{T, eqb, ltb, eqb→eq}
 use Rattle.basics.specs.Byte.{bit, byteIn}
-use Rattle.bodies.specs.Taken.{wordOf, portClear, counterClear}
+use Rattle.bodies.specs.Taken.{wordOf, counterClear}
 use Rattle.basics.proofs.Tests.{both, triple}
-use Rattle.basics.proofs.Truth.{rows, all2, all3, all7, same}
+use Rattle.basics.proofs.Truth.{rows, all2, all3, all7, all8, same}
 use Rattle.basics.proofs.Laws.{all, below}
 
 -- clauses that hold together hold one by one
@@ -20,9 +20,9 @@ sextet a b c d e f h =
     let s = both (a && b && c) d (t .0) in
     let r = triple a b c (s .0) in (r .0, r .1, r .2, s .1, t .1, u .1)
 
--- "IUS, IE, IP, ERR in D7-D4", and of a port D2 IRF, "D1 PMF, D0 IOE"
-abbrev pub portByte : Bool → Bool → Bool → Bool → Bool → Bool → Bool → ℕ
-portByte u e p r f m i = cond u 128 0 + cond e 64 0 + cond p 32 0 + cond r 16 0 + (cond f 4 0 + cond m 2 0 + cond i 1 0)
+-- "IUS, IE, IP, ERR in D7-D4", and of a port D3 ORE, D2 IRF, "D1 PMF, D0 IOE"
+abbrev pub portByte : Bool → Bool → Bool → Bool → Bool → Bool → Bool → Bool → ℕ
+portByte u e p r o f m i = cond u 128 0 + cond e 64 0 + cond p 32 0 + cond r 16 0 + (cond o 8 0 + cond f 4 0 + cond m 2 0 + cond i 1 0)
 
 -- of a counter "D3 RCC, D2 GCB, .. D0 CIP"
 abbrev pub counterByte : Bool → Bool → Bool → Bool → Bool → Bool → Bool → ℕ
@@ -36,35 +36,35 @@ flagByte a b = cond a 1 0 + cond b 2 0
 abbrev pub pulseByte : Bool → Bool → Bool → ℕ
 pulseByte a b c = cond a 1 0 + cond b 2 0 + cond c 4 0
 
-module _ (u e p r f m i : Bool) where
-  at-port : (k : ℕ) (x : Bool → Bool → Bool → Bool → Bool → Bool → Bool → Bool)
-      → T (rows (λ u. rows (λ e. rows (λ p. rows (λ r. rows (λ f. rows (λ m. rows (λ i. Bool·beq (bit (portByte u e p r f m i) k) (x u e p r f m i)))))))))
-      → bit (portByte u e p r f m i) k ≡ x u e p r f m i
-  at-port k x t = same _ _ (all7 (λ u e p r f m i. Bool·beq (bit (portByte u e p r f m i) k) (x u e p r f m i)) t u e p r f m i)
+module _ (u e p r o f m i : Bool) where
+  at-port : (k : ℕ) (x : Bool → Bool → Bool → Bool → Bool → Bool → Bool → Bool → Bool)
+      → T (rows (λ u. rows (λ e. rows (λ p. rows (λ r. rows (λ o. rows (λ f. rows (λ m. rows (λ i. Bool·beq (bit (portByte u e p r o f m i) k) (x u e p r o f m i))))))))))
+      → bit (portByte u e p r o f m i) k ≡ x u e p r o f m i
+  at-port k x t = same _ _ (all8 (λ u e p r o f m i. Bool·beq (bit (portByte u e p r o f m i) k) (x u e p r o f m i)) t u e p r o f m i)
 
-  pub port-ius : bit (portByte u e p r f m i) 7 ≡ u
-  port-ius = at-port 7 (λ u e p r f m i. u) tt
+  pub port-ius : bit (portByte u e p r o f m i) 7 ≡ u
+  port-ius = at-port 7 (λ u e p r o f m i. u) tt
 
-  pub port-ie : bit (portByte u e p r f m i) 6 ≡ e
-  port-ie = at-port 6 (λ u e p r f m i. e) tt
+  pub port-ie : bit (portByte u e p r o f m i) 6 ≡ e
+  port-ie = at-port 6 (λ u e p r o f m i. e) tt
 
-  pub port-ip : bit (portByte u e p r f m i) 5 ≡ p
-  port-ip = at-port 5 (λ u e p r f m i. p) tt
+  pub port-ip : bit (portByte u e p r o f m i) 5 ≡ p
+  port-ip = at-port 5 (λ u e p r o f m i. p) tt
 
-  pub port-err : bit (portByte u e p r f m i) 4 ≡ r
-  port-err = at-port 4 (λ u e p r f m i. r) tt
+  pub port-err : bit (portByte u e p r o f m i) 4 ≡ r
+  port-err = at-port 4 (λ u e p r o f m i. r) tt
 
-  pub port-irf : bit (portByte u e p r f m i) 2 ≡ f
-  port-irf = at-port 2 (λ u e p r f m i. f) tt
+  pub port-ore : bit (portByte u e p r o f m i) 3 ≡ o
+  port-ore = at-port 3 (λ u e p r o f m i. o) tt
 
-  pub port-pmf : bit (portByte u e p r f m i) 1 ≡ m
-  port-pmf = at-port 1 (λ u e p r f m i. m) tt
+  pub port-irf : bit (portByte u e p r o f m i) 2 ≡ f
+  port-irf = at-port 2 (λ u e p r o f m i. f) tt
 
-  pub port-ioe : bit (portByte u e p r f m i) 0 ≡ i
-  port-ioe = at-port 0 (λ u e p r f m i. i) tt
+  pub port-pmf : bit (portByte u e p r o f m i) 1 ≡ m
+  port-pmf = at-port 1 (λ u e p r o f m i. m) tt
 
-  pub port-clear : portClear (portByte u e p r f m i) ≡ true
-  port-clear = same _ _ (all7 (λ u e p r f m i. Bool·beq (portClear (portByte u e p r f m i)) true) tt u e p r f m i)
+  pub port-ioe : bit (portByte u e p r o f m i) 0 ≡ i
+  port-ioe = at-port 0 (λ u e p r o f m i. i) tt
 
 module _ (u e p r f g c : Bool) where
   at-counter : (k : ℕ) (x : Bool → Bool → Bool → Bool → Bool → Bool → Bool → Bool)
@@ -130,8 +130,9 @@ module _ (clear : ℕ → Bool) (made : ℕ → ℕ) where
   pub made-of : T (all (λ x. not (clear x) || eqb (made x) x) 256) → (x : ℕ) → x < 256 → clear x ≡ true → made x ≡ x
   made-of t x h c = eqb→eq _ _ (subst (λ (b : Bool). T (not b || eqb (made x) x)) c (below (λ x. not (clear x) || eqb (made x) x) 256 t x h))
 
-pub port-made : (x : ℕ) → x < 256 → portClear x ≡ true → portByte (bit x 7) (bit x 6) (bit x 5) (bit x 4) (bit x 2) (bit x 1) (bit x 0) ≡ x
-port-made = made-of portClear (λ x. portByte (bit x 7) (bit x 6) (bit x 5) (bit x 4) (bit x 2) (bit x 1) (bit x 0)) tt
+-- every bit of a port's byte is used
+pub port-made : (x : ℕ) → x < 256 → portByte (bit x 7) (bit x 6) (bit x 5) (bit x 4) (bit x 3) (bit x 2) (bit x 1) (bit x 0) ≡ x
+port-made x h = made-of (λ x. true) (λ x. portByte (bit x 7) (bit x 6) (bit x 5) (bit x 4) (bit x 3) (bit x 2) (bit x 1) (bit x 0)) tt x h refl
 
 pub counter-made : (x : ℕ) → x < 256 → counterClear x ≡ true → counterByte (bit x 7) (bit x 6) (bit x 5) (bit x 4) (bit x 3) (bit x 2) (bit x 0) ≡ x
 counter-made = made-of counterClear (λ x. counterByte (bit x 7) (bit x 6) (bit x 5) (bit x 4) (bit x 3) (bit x 2) (bit x 0)) tt

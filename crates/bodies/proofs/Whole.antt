@@ -20,13 +20,13 @@ use Rattle.rules.specs.Record.{Shaped, bare, blank, vacant, idle, quiet}
 use Rattle.bodies.specs.Layout.{Layout, layout1, layout2, layoutOf, layoutIn, contentsLen, offsetOf, sizeOf, lengthOf, contentsOf, bodyIn}
 use Rattle.bodies.specs.Written.{registersFrom, registersBody, countsBody, pinsBody, linesBody, transfersBody, bodiesFrom, imageOf}
 use Rattle.bodies.specs.Taken.{Bytes, registersIn, countsIn, pinsIn, linesIn, transfersIn, recordIn, deviceIn}
-use Rattle.bodies.specs.Taken.{registersClear, countsClear, pinsClear, linesClear, transfersClear, unusedClear, irfAgrees, clearIn}
+use Rattle.bodies.specs.Taken.{registersClear, countsClear, pinsClear, linesClear, transfersClear, unusedClear, statesAgree, clearIn}
 use Rattle.basics.proofs.Tests.{by-test}
 use Rattle.basics.proofs.Lists.{two, three, five}
 use Rattle.bodies.proofs.Bytes.{sextet}
 use Rattle.bodies.proofs.Lists.{ap₃}
 use Rattle.bodies.proofs.Entries.{Sized, bodyAmong, bodies-length, found, bytes-part, part-length, partsFrom, together}
-use Rattle.bodies.proofs.RegistersLaw.{registersTold, registers-read, registers-written, registers-clear, irf-agrees}
+use Rattle.bodies.proofs.RegistersLaw.{registersTold, registers-read, registers-written, registers-clear, states-agree}
 use Rattle.bodies.proofs.CountsLaw.{countsTold, counts-read, counts-written, counts-clear, counts-apart}
 use Rattle.bodies.proofs.PinsLaw.{pinsTold, pins-read, pins-written, pins-clear, pins-apart-1, pins-apart-2}
 use Rattle.bodies.proofs.LinesLaw.{linesTold, lines-read, lines-written, lines-clear, lines-apart-1, lines-apart-2, lines-apart-3}
@@ -126,7 +126,7 @@ image-clear d v =
     (ap registersClear (body-1 d) ∙ registers-clear d) (ap countsClear (body-2 d) ∙ counts-clear d) (ap pinsClear (body-3 d) ∙ pins-clear d))
     (ap linesClear (body-4 d) ∙ lines-clear d))
     (t .0))
-    (ap (λ (b : List ℕ). irfAgrees b (bodyIn (layoutOf d) 5 (imageOf d))) (body-1 d) ∙ irf-agrees d (bodyIn (layoutOf d) 5 (imageOf d)) (t .1))
+    (ap (λ (b : List ℕ). statesAgree b (bodyIn (layoutOf d) 5 (imageOf d))) (body-1 d) ∙ states-agree d (bodyIn (layoutOf d) 5 (imageOf d)) (t .1))
 
 -- the bodies and the version tell the whole record
 all-told : (d : Device) → Shaped d → transfersTold (linesTold (pinsTold (countsTold (registersTold (d .version) d) d) d) d) d ≡ d
@@ -162,11 +162,11 @@ module _ (l : Layout) (s : List ℕ) (h : Bytes s) (c : clearIn l s ≡ true) wh
   body id = bodyIn l id s
 
   clear : (registersClear (body 1) ≡ true) × (countsClear (body 2) ≡ true) × (pinsClear (body 3) ≡ true) × (linesClear (body 4) ≡ true)
-      × (transfersClear (body 5) ≡ true) × (irfAgrees (body 1) (body 5) ≡ true)
+      × (transfersClear (body 5) ≡ true) × (statesAgree (body 1) (body 5) ≡ true)
   unfolding clearIn unusedClear
   clear =
       sextet (registersClear (body 1)) (countsClear (body 2)) (pinsClear (body 3)) (linesClear (body 4)) (transfersClear (body 5))
-      (irfAgrees (body 1) (body 5)) c
+      (statesAgree (body 1) (body 5)) c
 
   bytes : (id : ℕ) → Bytes (body id)
   bytes id = bytes-part (offsetOf l id) (sizeOf l id) s h

@@ -13,7 +13,7 @@ use Rattle.rules.specs.declared.Counter.{Counter}
 use Rattle.rules.specs.declared.Port.{Port}
 use Rattle.rules.specs.declared.Pattern.{Pattern}
 use Rattle.rules.specs.declared.Transfer.{Transfer}
-use Rattle.rules.specs.Handshakes.{irfOf}
+use Rattle.rules.specs.Handshakes.{irfOf, oreOf}
 use Rattle.rules.specs.declared.Device.{Device}
 use Rattle.rules.specs.Record.{bare, vacant, quiet, counterAt}
 use Rattle.rules.specs.With.{transfer, withHidden, withCount, withHalf, withPulse, withOutside, withCatcher, withPorts, withTransfers, withCounters, withSources, withIei, withPhase}
@@ -150,19 +150,14 @@ unfoldable pub transfersIn : Device → List ℕ → Device
 transfersIn d b = withTransfers d (transferIn b 0 ∷ transferIn b 1 ∷ [])
 
 -- ---- "unused bits 0": those that no field of the record holds. Port C's upper four bits are the record's own matter.
--- "Port: .. D3-D2 read 0"; of D2, IRF, see below
-abbrev pub portClear : ℕ → Bool
-portClear x = not (bit x 3)
-
 -- "D1 trigger (reads 0)"
 abbrev pub counterClear : ℕ → Bool
 counterClear x = not (bit x 1)
 
--- 08, 09, 0A-0C and "1F 0"
+-- 0A-0C and "1F 0"; of 08 and 09, ORE and IRF, see below
 abbrev pub registersClear : List ℕ → Bool
 registersClear b =
-    portClear (byteAt b 0x08) && portClear (byteAt b 0x09)
-    && counterClear (byteAt b 0x0A) && counterClear (byteAt b 0x0B) && counterClear (byteAt b 0x0C)
+    counterClear (byteAt b 0x0A) && counterClear (byteAt b 0x0B) && counterClear (byteAt b 0x0C)
     && byteAt b 0x1F == 0
 
 -- of flags D2 to D0 are used (in version 1 a pulse is not sound), of hidden errors D1 and D0
@@ -189,11 +184,14 @@ unfoldable pub unusedClear : List ℕ → List ℕ → List ℕ → List ℕ →
 unusedClear registers counts pins lines transfers =
     registersClear registers && countsClear counts && pinsClear pins && linesClear lines && transfersClear transfers
 
--- "IRF .. must agree with it": D2 of 08H and 09H with what body 5 tells of the ports of body 1
-unfoldable pub irfAgrees : List ℕ → List ℕ → Bool
-irfAgrees registers transfers =
-    Bool·beq (bit (byteAt registers 0x08) 2) (irfOf (patternIn registers 0) (transferIn transfers 0))
-    && Bool·beq (bit (byteAt registers 0x09) 2) (irfOf (patternIn registers 1) (transferIn transfers 1))
+-- "IRF and ORE must agree with it": D3 and D2 of 08H or 09H with what body 5 tells of that port of body 1
+unfoldable pub stateAgrees : List ℕ → List ℕ → ℕ → Bool
+stateAgrees registers transfers p =
+    Bool·beq (bit (byteAt registers (0x08 + p)) 3) (oreOf (patternIn registers p) (transferIn transfers p))
+    && Bool·beq (bit (byteAt registers (0x08 + p)) 2) (irfOf (patternIn registers p) (transferIn transfers p))
+
+unfoldable pub statesAgree : List ℕ → List ℕ → Bool
+statesAgree registers transfers = stateAgrees registers transfers 0 && stateAgrees registers transfers 1
 
 -- ---- an image: "Each body is read from the middle of the image, at its entry's offset."
 unfoldable pub deviceIn : Layout → List ℕ → Device
@@ -201,4 +199,4 @@ deviceIn l s = recordIn (l .version) (bodyIn l 1 s) (bodyIn l 2 s) (bodyIn l 3 s
 
 unfoldable pub clearIn : Layout → List ℕ → Bool
 clearIn l s =
-    unusedClear (bodyIn l 1 s) (bodyIn l 2 s) (bodyIn l 3 s) (bodyIn l 4 s) (bodyIn l 5 s) && irfAgrees (bodyIn l 1 s) (bodyIn l 5 s)
+    unusedClear (bodyIn l 1 s) (bodyIn l 2 s) (bodyIn l 3 s) (bodyIn l 4 s) (bodyIn l 5 s) && statesAgree (bodyIn l 1 s) (bodyIn l 5 s)

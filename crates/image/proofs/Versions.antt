@@ -10,9 +10,11 @@ use borrow.Author.Tests.{eqb-true, ne-eqb, ltb-false}
 use lib.Dec.{eqb, ltb, lit<}
 use Rattle.basics.specs.Byte.{bit}
 use Rattle.rules.specs.declared.Device.{Device}
+use Rattle.rules.specs.declared.Pattern.{Pattern}
 use Rattle.rules.specs.declared.Transfer.{Transfer}
 use Rattle.rules.specs.Record.{Shaped, vacant, patternAt, transferAt}
 use Rattle.rules.specs.Registers.{portEnabled, laterPortMode, laterHandshake}
+use Rattle.rules.specs.Handshakes.{handshakes}
 use Rattle.rules.specs.Sound.{laterPort, soundOf}
 use Rattle.basics.proofs.Tests.{never}
 use Rattle.basics.proofs.Lists.{two}
@@ -20,11 +22,12 @@ use Rattle.theorems.proofs.Clauses.{sound-parts}
 use Rattle.bodies.proofs.Whole.{Versioned}
 
 -- of version 1 every mode but D7-D6 = 00 is refused, or unsound
-old-mode : (m h : ℕ) → (laterPortMode 1 m || laterHandshake m h) ≡ false → eqb (m / 64) 1 ≡ false
+old-mode : (q : Pattern) → laterPort 1 q ≡ false → handshakes q ≡ false
 unfolding laterPortMode
-old-mode m h e =
-    let low = ltb-false 0 (m / 64) (first (ltb 0 (m / 64)) (eqb (m / 2 % 4) 3) (bit m 0) (laterHandshake m h) e) in
-    ne-eqb (m / 64) 1 (λ o. omega arith)
+old-mode q e =
+    let m = q .mode in
+    let low = ltb-false 0 (m / 64) (first (ltb 0 (m / 64)) (eqb (m / 2 % 4) 3) (bit m 0) (laterHandshake m (q .handshake)) e) in
+    ap₂ _||_ (ne-eqb (m / 64) 1 (λ o. omega arith)) (ne-eqb (m / 64) 2 (λ o. omega arith))
   where
     first : (a b c g : Bool) → (a || b || c || g) ≡ false → a ≡ false
     first true b c g e = e
@@ -36,8 +39,7 @@ module _ (d : Device) (f : Shaped d) (s : soundOf d ≡ true) where
   empty e p l =
       let parts = sound-parts d s .base in
       let later = subst (λ (n : ℕ). laterPort n (patternAt d p) ≡ false) e (parts .modes p l) in
-      let none = old-mode (patternAt d p .mode) (patternAt d p .handshake) later in
-      parts .transfers p l .held (ap (λ (t : Bool). not (t && portEnabled d p)) none)
+      parts .transfers p l .held (ap (λ (t : Bool). not (t && portEnabled d p)) (old-mode (patternAt d p) later))
 
   pub sound-versioned : Versioned d
   sound-versioned = by-version (eqb (d .version) 1) (eqb (d .version) 2) refl refl (sound-parts d s .base .version)

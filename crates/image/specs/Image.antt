@@ -1,4 +1,4 @@
--- Paper 01, "The image": what save and restore answer. The layout, the four bodies and what they tell are in the specs of `bodies`.
+-- Paper 01, "The image": what save and restore answer. The layout, the bodies and what they tell are in the specs of `bodies`.
 -- Assumes nothing.
 use Prim.Native.Nat.{ℕ}
 use mathlib.Core.Bool.{Bool, true, false, not, _&&_}

@@ -7,7 +7,7 @@ ghost use mathlib.Core.List.{_++_};
 ghost use Prim.Native.Nat.{_≤_};
 ghost use lib.ListN.{length, drop};
 ghost use Rattle.bodies.specs.Written.{imageOf};
-ghost use Rattle.bodies.specs.Taken.{recordIn, unusedClear, irfAgrees};
+ghost use Rattle.bodies.specs.Taken.{recordIn, unusedClear, statesAgree};
 ghost use Rattle.bodies.specs.Layout.{layout1, layout2, layoutOf, lengthOf};
 ghost use Rattle.image.specs.Image.{agree, saveCode, savedOf, refused, acceptedOf, restoredIn, restoredOf};
 use rules::Device;
@@ -102,7 +102,7 @@ fn accept(
 ) -> Restored
     ensures { λ r. ⌜ r ≡ acceptedOf
         (unusedClear (now (registers .entry)) (now (counts .entry)) (now (pins .entry)) (now (lines .entry)) (now (transfers .entry))
-        && irfAgrees (now (registers .entry)) (now (transfers .entry)))
+        && statesAgree (now (registers .entry)) (now (transfers .entry)))
         (recordIn version (now (registers .entry)) (now (counts .entry)) (now (pins .entry)) (now (lines .entry)) (now (transfers .entry))) ⌝ }
 {
     if !image_in::clear(registers, counts, pins, lines, transfers) {

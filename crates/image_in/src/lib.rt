@@ -6,7 +6,7 @@ mod unused;
 
 ghost use mathlib.Core.Path.{_≡_};
 ghost use mathlib.Core.Bool.{_&&_};
-ghost use Rattle.bodies.specs.Taken.{recordIn, unusedClear, irfAgrees};
+ghost use Rattle.bodies.specs.Taken.{recordIn, unusedClear, statesAgree};
 use registers::read_registers;
 use rest::read_counts;
 use rest::read_lines;
@@ -14,10 +14,10 @@ use rest::read_pins;
 use rest::read_transfers;
 use rules::Device;
 use unused::counts_clear;
-use unused::irf_agrees;
 use unused::lines_clear;
 use unused::pins_clear;
 use unused::registers_clear;
+use unused::states_agree;
 use unused::transfers_clear;
 
 pub fn device(
@@ -39,12 +39,12 @@ pub fn device(
 
 pub fn clear(registers: &[u8], counts: &[u8], pins: &[u8], lines: &[u8], transfers: &[u8]) -> bool
     ensures { λ r. ⌜ r ≡ (unusedClear (now (registers .entry)) (now (counts .entry)) (now (pins .entry)) (now (lines .entry)) (now (transfers .entry))
-        && irfAgrees (now (registers .entry)) (now (transfers .entry))) ⌝ }
+        && statesAgree (now (registers .entry)) (now (transfers .entry))) ⌝ }
 {
     registers_clear(registers)
         & counts_clear(counts)
         & pins_clear(pins)
         & lines_clear(lines)
         & transfers_clear(transfers)
-        & irf_agrees(registers, transfers)
+        & states_agree(registers, transfers)
 }

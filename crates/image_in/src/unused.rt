@@ -1,18 +1,12 @@
 // Whether the unused bits of a body are 0.
 ghost use mathlib.Core.Path.{_≡_};
-ghost use Rattle.bodies.specs.Taken.{byteAt, portClear, counterClear, registersClear, countsClear, pinsClear, linesClear, transfersClear, irfAgrees};
+ghost use Prim.Native.Nat.{_<_};
+ghost use Rattle.bodies.specs.Taken.{byteAt, counterClear, registersClear, countsClear, pinsClear, linesClear, transfersClear, stateAgrees, statesAgree};
 use crate::bits::bit_at;
 use crate::registers::pattern_in;
 use crate::rest::transfer_in;
 
-// D3 of a port's command register.
-fn port_clear(b: &[u8], i: usize) -> bool
-    ensures { λ r. ⌜ r ≡ portClear (byteAt (now (b .entry)) i) ⌝ }
-{
-    !bit_at(b, i, 3)
-}
-
-// D1 of a counter's, the trigger.
+// D1 of a counter's command register, the trigger.
 fn counter_clear(b: &[u8], i: usize) -> bool
     ensures { λ r. ⌜ r ≡ counterClear (byteAt (now (b .entry)) i) ⌝ }
 {
@@ -22,9 +16,7 @@ fn counter_clear(b: &[u8], i: usize) -> bool
 pub(crate) fn registers_clear(b: &[u8]) -> bool
     ensures { λ r. ⌜ r ≡ registersClear (now (b .entry)) ⌝ }
 {
-    port_clear(b, 0x08)
-        & port_clear(b, 0x09)
-        & counter_clear(b, 0x0A)
+    counter_clear(b, 0x0A)
         & counter_clear(b, 0x0B)
         & counter_clear(b, 0x0C)
         & (basics::byte_at(b, 0x1F) == 0)
@@ -54,11 +46,20 @@ pub(crate) fn transfers_clear(b: &[u8]) -> bool
     (basics::byte_at(b, 3) < 4) & (basics::byte_at(b, 7) < 4)
 }
 
-// Whether IRF in body 1 is what body 5 makes of it.
-pub(crate) fn irf_agrees(registers: &[u8], transfers: &[u8]) -> bool
-    ensures { λ r. ⌜ r ≡ irfAgrees (now (registers .entry)) (now (transfers .entry)) ⌝ }
+// Whether ORE and IRF of port p in body 1 are what body 5 makes of them.
+fn state_agrees(registers: &[u8], transfers: &[u8], p: usize) -> bool
+    requires { ⌜ p < 2 ⌝ }
+    ensures { λ r. ⌜ r ≡ stateAgrees (now (registers .entry)) (now (transfers .entry)) p ⌝ }
 {
-    let a = ports::irf(pattern_in(registers, 0), transfer_in(transfers, 0));
-    let b = ports::irf(pattern_in(registers, 1), transfer_in(transfers, 1));
-    (bit_at(registers, 0x08, 2) == a) & (bit_at(registers, 0x09, 2) == b)
+    let q = pattern_in(registers, p);
+    let t = transfer_in(transfers, p);
+    let ore = ports::ore(q, t);
+    let irf = ports::irf(q, t);
+    (bit_at(registers, 0x08 + p, 3) == ore) & (bit_at(registers, 0x08 + p, 2) == irf)
+}
+
+pub(crate) fn states_agree(registers: &[u8], transfers: &[u8]) -> bool
+    ensures { λ r. ⌜ r ≡ statesAgree (now (registers .entry)) (now (transfers .entry)) ⌝ }
+{
+    state_agrees(registers, transfers, 0) & state_agrees(registers, transfers, 1)
 }

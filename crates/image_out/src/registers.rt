@@ -3,8 +3,20 @@ ghost use mathlib.Core.Path.{_≡_};
 ghost use mathlib.Core.Bool.{true, false};
 ghost use mathlib.Core.List.{[], _∷_};
 ghost use Rattle.basics.specs.Byte.{byteIn};
+ghost use Rattle.rules.specs.Registers.{portCommandOf};
+ghost use Rattle.rules.specs.Handshakes.{irfOf, oreOf};
 ghost use Rattle.bodies.specs.Written.{registersFrom, registersBody};
 use rules::Device;
+use rules::Pattern;
+use rules::Source;
+use rules::Transfer;
+
+// 08 or 09: the command register of a port, with what it holds.
+fn port_command(s: Source, q: Pattern, t: Transfer) -> u8
+    ensures { λ r. ⌜ r ≡ portCommandOf s q (oreOf q t) (irfOf q t) ⌝ }
+{
+    sources::port_command(s, q, ports::ore(q, t), ports::irf(q, t))
+}
 
 // 08-0C: commands.
 fn commands(d: Device) -> [u8; 5]
@@ -16,8 +28,8 @@ fn commands(d: Device) -> [u8; 5]
     let b = d.sources[3];
     let ct1 = d.sources[4];
     [
-        sources::port_command(a, d.patterns[0], ports::irf(d.patterns[0], d.transfers[0])),
-        sources::port_command(b, d.patterns[1], ports::irf(d.patterns[1], d.transfers[1])),
+        port_command(a, d.patterns[0], d.transfers[0]),
+        port_command(b, d.patterns[1], d.transfers[1]),
         sources::counter_command(ct1, d.counters[0]),
         sources::counter_command(ct2, d.counters[1]),
         sources::counter_command(ct3, d.counters[2]),

@@ -2,7 +2,7 @@
 ghost use mathlib.Core.Path.{_≡_};
 ghost use Prim.Native.Nat.{_<_};
 ghost use Rattle.rules.specs.Record.{vectorAt, patternAt};
-ghost use Rattle.rules.specs.Handshakes.{irfAt};
+ghost use Rattle.rules.specs.Handshakes.{irfAt, oreAt};
 ghost use Rattle.rules.specs.Interrupts.{vectorOf, counterStatus, portStatus, withStatus, vectorFor};
 use crate::order;
 use rules::Device;
@@ -32,13 +32,14 @@ fn counter_vector(base: u8, n: usize, err: bool) -> u8
 }
 
 // A port's vector with status.
-fn port_vector(base: u8, irf: bool, pmf: bool, err: bool) -> u8
-    ensures { λ r. ⌜ r ≡ portStatus base irf pmf err ⌝ }
+fn port_vector(base: u8, ore: bool, irf: bool, pmf: bool, err: bool) -> u8
+    ensures { λ r. ⌜ r ≡ portStatus base ore irf pmf err ⌝ }
 {
     if err {
         return base / 16 * 16 + base % 2;
     }
-    base / 16 * 16 + basics::weight(irf, 4) + basics::weight(pmf, 2) + base % 2
+    let state = basics::weight(ore, 8) + basics::weight(irf, 4);
+    base / 16 * 16 + state + basics::weight(pmf, 2) + base % 2
 }
 
 // Vector v: A, B, CT, and past them 0.
@@ -58,12 +59,19 @@ fn irf_at(d: Device, p: usize) -> bool
     ports::irf(d.patterns[p], d.transfers[p])
 }
 
+fn ore_at(d: Device, p: usize) -> bool
+    requires { ⌜ p < 2 ⌝ }
+    ensures { λ r. ⌜ r ≡ oreAt d p ⌝ }
+{
+    ports::ore(d.patterns[p], d.transfers[p])
+}
+
 // The vector of port p with status.
 fn port_status(d: Device, p: usize, base: u8, err: bool) -> u8
     requires { ⌜ p < 2 ⌝ }
-    ensures { λ r. ⌜ r ≡ portStatus base (irfAt d p) (patternAt d p .pmf) err ⌝ }
+    ensures { λ r. ⌜ r ≡ portStatus base (oreAt d p) (irfAt d p) (patternAt d p .pmf) err ⌝ }
 {
-    port_vector(base, irf_at(d, p), d.patterns[p].pmf, err)
+    port_vector(base, ore_at(d, p), irf_at(d, p), d.patterns[p].pmf, err)
 }
 
 // The vector of source k with status. Ports have the odd places.

@@ -5,9 +5,12 @@ ghost use Prim.Native.Nat.{_<_};
 ghost use lib.Dec.{ltb};
 ghost use Rattle.basics.specs.Byte.{byteOf};
 ghost use Rattle.rules.specs.Record.{patternAt};
-ghost use Rattle.rules.specs.Handshakes.{handshakes, readyAt, isLine};
+ghost use Rattle.rules.specs.Handshakes.{handshakes, offersAt, shownAt, isLine};
 ghost use Rattle.rules.specs.PortData.{effectiveAt, lined};
+use crate::ackin_at;
 use crate::handshakes_at;
+use crate::inputs_at;
+use crate::outputs_at;
 use crate::port_at;
 use crate::port_enabled;
 use rules::Device;
@@ -34,28 +37,45 @@ fn lines(d: Device) -> u8
     at_lines(handshakes_at(d, 0), handshakes_at(d, 1))
 }
 
-// What the ready line of port p shows.
-fn ready_at(d: Device, p: usize) -> bool
+// Whether port p offers to take a byte, or to give one.
+pub(crate) fn offers(d: Device, p: usize) -> bool
     requires { ⌜ p < 2 ⌝ }
-    ensures { λ r. ⌜ r ≡ readyAt d p ⌝ }
+    ensures { λ r. ⌜ r ≡ offersAt d p ⌝ }
 {
-    ports::ready(port_enabled(d, p), d.patterns[p], d.transfers[p])
+    let enabled = port_enabled(d, p);
+    let q = d.patterns[p];
+    let t = d.transfers[p];
+    if ports::inputs(q) {
+        return ports::ready(enabled, q, t);
+    }
+    ports::available(enabled, q, t, ackin_at(d, p))
 }
 
-// The byte x of Port C with the ready lines in their places: of the lines the odd bits.
-fn with_ready(d: Device, x: u8) -> u8
+// What the line of port p shows, before polarity.
+fn shown_at(d: Device, p: usize) -> bool
+    requires { ⌜ p < 2 ⌝ }
+    ensures { λ r. ⌜ r ≡ shownAt d p ⌝ }
+{
+    if ports::inputs(d.patterns[p]) {
+        return offers(d, p);
+    }
+    !offers(d, p)
+}
+
+// The byte x of Port C with what ports A and B show in its place: of the lines the odd bits.
+fn with_shown(d: Device, x: u8) -> u8
     ensures { λ r. ⌜ r ≡ lined d x ⌝ }
 {
     let m = lines(d) & 0xAA;
-    let ready = at_lines(ready_at(d, 0), ready_at(d, 1));
-    (x & (m ^ 255)) | (ready & m)
+    let shown = at_lines(shown_at(d, 0), shown_at(d, 1));
+    (x & (m ^ 255)) | (shown & m)
 }
 
 pub(crate) fn shown(d: Device, x: u8) -> u8
     ensures { λ r. ⌜ r ≡ lined d x ⌝ }
 {
     if any(d) {
-        return with_ready(d, x);
+        return with_shown(d, x);
     }
     x
 }
@@ -73,10 +93,16 @@ pub(crate) fn effective(d: Device, p: usize) -> Port
             ..q
         };
     }
-    if handshakes_at(d, p) {
+    if inputs_at(d, p) {
         return Port {
             direction: 0xFF,
             special: 0x00,
+            ..q
+        };
+    }
+    if outputs_at(d, p) {
+        return Port {
+            direction: 0x00,
             ..q
         };
     }

@@ -5,7 +5,7 @@ mod port;
 ghost use mathlib.Core.Path.{_≡_};
 ghost use Rattle.rules.specs.Record.{portAt, patternAt, transferAt};
 ghost use Rattle.rules.specs.Registers.{portOn, portEnabled, counterOn};
-ghost use Rattle.rules.specs.Handshakes.{handshakes};
+ghost use Rattle.rules.specs.Handshakes.{inputs, outputs, handshakes, ackinAt, offersAt};
 ghost use Rattle.rules.specs.PortData.{directionAt, effectiveAt, valueAt, pinsAt, pathAt, seenAt, dataAt};
 use rules::Device;
 use rules::Port;
@@ -61,13 +61,51 @@ fn port_at(d: Device, p: usize) -> Port
     }
 }
 
-// Whether port p has a handshake; past A and B none has.
-pub fn handshakes_at(d: Device, p: usize) -> bool
-    ensures { λ r. ⌜ r ≡ handshakes (patternAt d p) ⌝ }
+// Whether port p is an input port with handshake, an output port, or one of the two; past A and B none is.
+pub fn inputs_at(d: Device, p: usize) -> bool
+    ensures { λ r. ⌜ r ≡ inputs (patternAt d p) ⌝ }
 {
     match p {
-        0 => ports::handshakes(d.patterns[0]),
-        1 => ports::handshakes(d.patterns[1]),
+        0 => ports::inputs(d.patterns[0]),
+        1 => ports::inputs(d.patterns[1]),
+        _ => false,
+    }
+}
+
+pub fn outputs_at(d: Device, p: usize) -> bool
+    ensures { λ r. ⌜ r ≡ outputs (patternAt d p) ⌝ }
+{
+    match p {
+        0 => ports::outputs(d.patterns[0]),
+        1 => ports::outputs(d.patterns[1]),
+        _ => false,
+    }
+}
+
+fn handshakes_at(d: Device, p: usize) -> bool
+    ensures { λ r. ⌜ r ≡ handshakes (patternAt d p) ⌝ }
+{
+    inputs_at(d, p) | outputs_at(d, p)
+}
+
+// The path value of the ACKIN of port p; past A and B, of B's.
+pub fn ackin_at(d: Device, p: usize) -> bool
+    ensures { λ r. ⌜ r ≡ ackinAt d p ⌝ }
+{
+    let path = d.ports[2].outside ^ d.ports[2].polarity;
+    if p == 0 {
+        return path / 4 % 2 == 1;
+    }
+    path % 2 == 1
+}
+
+// What port p puts out for the outside to act on; past A and B nothing.
+pub fn offers_at(d: Device, p: usize) -> bool
+    ensures { λ r. ⌜ r ≡ offersAt d p ⌝ }
+{
+    match p {
+        0 => handshake::offers(d, 0),
+        1 => handshake::offers(d, 1),
         _ => false,
     }
 }
@@ -105,7 +143,7 @@ fn value_at(d: Device, p: usize) -> u8
 {
     let q = port_at(d, p);
     let x = q.output;
-    if p == 0 {
+    if (p == 0) | outputs_at(d, p) {
         return x;
     }
     if p == 1 {
@@ -149,7 +187,7 @@ pub fn data_at(d: Device, p: usize) -> u8
             port::level(port_at(d, p), pins_at(d, p)),
         );
     }
-    if handshakes_at(d, p) {
+    if inputs_at(d, p) {
         return front_at(d, p);
     }
     seen_at(d, p)

@@ -13,7 +13,7 @@ use Rattle.rules.specs.declared.Event.{Event}
 use Rattle.rules.specs.Sound.{soundOf}
 use Rattle.rules.specs.Registers.{readOnly, later}
 use Rattle.rules.specs.Interrupts.{requester}
-use Rattle.rules.specs.Events.{isW, isT, isK, unknown, noRegister, tooLarge, held, noByte, codeOf, effect, answerOf, outcomeOf, eventOf}
+use Rattle.rules.specs.Events.{isW, isT, isK, unknown, noRegister, tooLarge, held, noByte, noRoom, codeOf, effect, answerOf, outcomeOf, eventOf}
 use Rattle.theorems.proofs.Refusals.{code-is, code-9}
 use Rattle.measure.specs.declared.Measure.{Measure}
 use Rattle.measure.specs.declared.Measured.{Measured}
@@ -22,7 +22,7 @@ use Rattle.measure.proofs.Calls.{measured-ways, refused-device}
 
 -- T has no refusal but 9
 pub sound-tick : (d : Device) (e : Event) → soundOf d ≡ true → isT e ≡ true → codeOf d e ≡ 0
-unfolding codeOf unknown noRegister tooLarge held noByte
+unfolding codeOf unknown noRegister tooLarge held noByte noRoom
 sound-tick d e s t = simp (s, eqb-true (e .kind) 4 t, and-false)
 
 -- the event call never gives 12
@@ -40,8 +40,9 @@ never-12 d e =
     (or-not (held d e) 0 _ (λ p. omega arith)
     (or-not (isW e && readOnly (e .a)) 3 _ (λ p. omega arith)
     (or-not (noByte d e) 11 _ (λ p. omega arith)
+    (or-not (noRoom d e) 10 _ (λ p. omega arith)
     (or-not (isW e && later d (e .a) (e .b)) 4 _ (λ p. omega arith)
-    (or-not (isK e && eqb (requester d) 5) 6 0 (λ p. omega arith) (λ p. omega arith)))))))))
+    (or-not (isK e && eqb (requester d) 5) 6 0 (λ p. omega arith) (λ p. omega arith))))))))))
 
 accepted-sound : (d : Device) (e : Event) → codeOf d e ≡ 0 → So (soundOf d)
 accepted-sound d e z = by (soundOf d) refl

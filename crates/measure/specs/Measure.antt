@@ -10,7 +10,8 @@ use Rattle.rules.specs.declared.Device.{Device}
 use Rattle.rules.specs.declared.Event.{Event}
 use Rattle.rules.specs.declared.Outcome.{Outcome}
 use Rattle.rules.specs.Record.{patternAt, transferAt, sourceAt}
-use Rattle.rules.specs.Handshakes.{handshakes, itb}
+use Rattle.rules.specs.Handshakes.{inputs, outputs, itb}
+use Rattle.rules.specs.Registers.{portEnabled}
 use Rattle.rules.specs.Interrupts.{requester}
 use Rattle.rules.specs.Access.{clearsIp}
 use Rattle.rules.specs.Step.{ranOf}
@@ -49,14 +50,16 @@ commandOf k = if k % 2 == 1 then 0x08 + k / 2 else 0x0C - k / 2
 abbrev pub clearsBy : Event → ℕ → Bool
 clearsBy e command = isW e && e .a == command && clearsIp (e .b / 32)
 
--- W-203: "Reading the data clears IP, with ITB 1 at the second byte read since IP rose": of port p, at 0DH or 0EH
-abbrev pub clearsByRead : Device → Event → ℕ → Bool
-clearsByRead d e p =
-    isR e && e .a == 0x0D + p && handshakes (patternAt d p) && (not (itb (patternAt d p)) || transferAt d p .pair)
+-- W-203: "Reading the data clears IP, with ITB 1 at the second byte read since IP rose"; W-206: a byte written to an output port does
+-- likewise: of port p, at 0DH or 0EH
+abbrev pub clearsByData : Device → Event → ℕ → Bool
+clearsByData d e p =
+    ((isR e && inputs (patternAt d p)) || (isW e && outputs (patternAt d p) && portEnabled d p))
+    && e .a == 0x0D + p && (not (itb (patternAt d p)) || transferAt d p .pair)
 
 -- whether an event clears IP of source k; those at odd places are the ports'
 abbrev pub clears : Device → Event → ℕ → Bool
-clears d e k = clearsBy e (commandOf k) || (k % 2 == 1 && clearsByRead d e (k / 2))
+clears d e k = clearsBy e (commandOf k) || (k % 2 == 1 && clearsByData d e (k / 2))
 
 -- ---- clocks
 -- one clock, from the record d to the record e

@@ -4,7 +4,7 @@ ghost use Prim.Native.Nat.{_+_, _≤_, _<_};
 ghost use Rattle.rules.specs.Record.{sourceAt};
 ghost use Rattle.rules.specs.Step.{ranOf};
 ghost use Rattle.measure.specs.Wait.{moved as movedOf};
-ghost use Rattle.measure.specs.Measure.{waitAt, mostClocks, stepped as steppedOf, clearsBy, clearsByRead, clears as clearsOf, ticked as tickedOf, taken as takenOf};
+ghost use Rattle.measure.specs.Measure.{waitAt, mostClocks, stepped as steppedOf, clearsBy, clearsByData, clears as clearsOf, ticked as tickedOf, taken as takenOf};
 ghost use Rattle.measure.specs.Rise.{waited};
 use crate::Measure;
 use crate::Wait;
@@ -21,15 +21,17 @@ fn clears(e: Event, command: u32) -> bool
     (e.kind == Event::W) & (e.a == command) & ((n == 1) | (n == 5))
 }
 
-// Whether it is a read of the data that clears IP of port p: with ITB the second of a pair.
-fn clears_by_read(d: Device, e: Event, p: usize) -> bool
+// Whether it reads or writes the data of port p, which clears IP: with ITB the second of a pair.
+fn clears_by_data(d: Device, e: Event, p: usize) -> bool
     requires { ⌜ p < 2 ⌝ }
-    ensures { λ r. ⌜ r ≡ clearsByRead d e p ⌝ }
+    ensures { λ r. ⌜ r ≡ clearsByData d e p ⌝ }
 {
     let q = d.patterns[p];
     let t = d.transfers[p];
     let itb = q.mode / 32 % 2 == 1;
-    (e.kind == Event::R) & (e.a == 0x0D + (p as u32)) & ports::handshakes(q) & (!itb | t.pair)
+    let reads = (e.kind == Event::R) & ports::inputs(q);
+    let writes = (e.kind == Event::W) & ports::outputs(q) & levels::port_enabled(d, p);
+    (reads | writes) & (e.a == 0x0D + (p as u32)) & (!itb | t.pair)
 }
 
 // Source k in a step from d to f.
@@ -51,9 +53,9 @@ pub(crate) fn stepped(e: Event, d: Device, f: Device, m: Measure) -> Measure
         clocks: m.clocks,
         waits: [
             stepped_at(0, clears(e, 0x0C), d, f, m),
-            stepped_at(1, clears(e, 0x08) | clears_by_read(d, e, 0), d, f, m),
+            stepped_at(1, clears(e, 0x08) | clears_by_data(d, e, 0), d, f, m),
             stepped_at(2, clears(e, 0x0B), d, f, m),
-            stepped_at(3, clears(e, 0x09) | clears_by_read(d, e, 1), d, f, m),
+            stepped_at(3, clears(e, 0x09) | clears_by_data(d, e, 1), d, f, m),
             stepped_at(4, clears(e, 0x0A), d, f, m),
         ],
     }

@@ -3,7 +3,7 @@ ghost use mathlib.Core.Path.{_≡_};
 ghost use Rattle.basics.specs.Byte.{byteOf};
 ghost use Rattle.rules.specs.PortData.{catchesAt};
 ghost use Rattle.rules.specs.Patterns.{onAt};
-ghost use Rattle.rules.specs.Handshakes.{handshakes, depth, irfOf, readyOf};
+ghost use Rattle.rules.specs.Handshakes.{inputs, outputs, handshakes, depth, irfOf, oreOf, readyOf, availableOf};
 use rules::Pattern;
 use rules::Port;
 use rules::Transfer;
@@ -29,11 +29,23 @@ pub fn on(p: Pattern) -> u8
     p.mask | p.transition
 }
 
-// Whether a port has a handshake.
+// Whether a port is an input port with handshake, an output port, or one of the two.
+pub fn inputs(q: Pattern) -> bool
+    ensures { λ r. ⌜ r ≡ inputs q ⌝ }
+{
+    q.mode / 64 == 1
+}
+
+pub fn outputs(q: Pattern) -> bool
+    ensures { λ r. ⌜ r ≡ outputs q ⌝ }
+{
+    q.mode / 64 == 2
+}
+
 pub fn handshakes(q: Pattern) -> bool
     ensures { λ r. ⌜ r ≡ handshakes q ⌝ }
 {
-    q.mode / 64 == 1
+    inputs(q) | outputs(q)
 }
 
 // How many bytes a port with handshake has room for.
@@ -48,12 +60,27 @@ pub fn depth(q: Pattern) -> u8
 pub fn irf(q: Pattern, t: Transfer) -> bool
     ensures { λ r. ⌜ r ≡ irfOf q t ⌝ }
 {
-    handshakes(q) & !(t.bytes == 0)
+    inputs(q) & !(t.bytes == 0)
 }
 
-// What the ready line of a port shows.
+// Whether its Output register is empty.
+pub fn ore(q: Pattern, t: Transfer) -> bool
+    ensures { λ r. ⌜ r ≡ oreOf q t ⌝ }
+{
+    outputs(q) & (t.bytes < depth(q))
+}
+
+// Whether an input port is ready.
 pub fn ready(enabled: bool, q: Pattern, t: Transfer) -> bool
     ensures { λ r. ⌜ r ≡ readyOf enabled q t ⌝ }
 {
     enabled & (t.bytes < depth(q)) & !t.unfinished
+}
+
+// Whether an output port has a byte available, with its ACKIN.
+pub fn available(enabled: bool, q: Pattern, t: Transfer, ackin: bool) -> bool
+    ensures { λ r. ⌜ r ≡ availableOf enabled q t ackin ⌝ }
+{
+    let strobed = q.handshake / 64 == 1;
+    enabled & !(t.bytes == 0) & (strobed | (!t.unfinished & ackin))
 }

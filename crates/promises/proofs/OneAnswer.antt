@@ -10,7 +10,7 @@ use mathlib.Core.List.{List}
 use mathlib.Core.Path.{refl}
 use Rattle.basics.specs.Buffer.{fits, laidOf}
 use Rattle.basics.specs.Byte.{byteIn, byteOf, withByte}
-use Rattle.bodies.specs.Taken.{irfAgrees, recordIn, unusedClear}
+use Rattle.bodies.specs.Taken.{statesAgree, recordIn, unusedClear}
 use Rattle.bodies.specs.Written.{bodiesOf}
 use Rattle.image.specs.Image.{restoredOf, saveCode, savedOf}
 use Rattle.input.specs.Input.{unread}
@@ -22,9 +22,9 @@ use Rattle.registers.specs.Place.{place}
 use Rattle.rules.specs.Access.{afterRead, readOf, writtenOf}
 use Rattle.rules.specs.Counters.{commandedBy, outputOf, reachOf, turnOf}
 use Rattle.rules.specs.Events.{codeOf, eventOf}
-use Rattle.rules.specs.Handshakes.{depth, handshakes, irfOf, readyOf}
+use Rattle.rules.specs.Handshakes.{ackinAt, availableOf, depth, handshakes, inputs, irfOf, offersAt, oreOf, outputs, readyOf}
 use Rattle.rules.specs.Interrupts.{acknowledge, acknowledged, currentVector, fateOf, ieoOf, intOf, requester, vectorRead}
-use Rattle.rules.specs.Moves.{givenAt, movesOf}
+use Rattle.rules.specs.Moves.{givenAt, movesOf, storedAt}
 use Rattle.rules.specs.Patterns.{onAt}
 use Rattle.rules.specs.PortData.{catchesAt, dataAt, directionAt, effectiveAt, pathAt, pinsAt, seenAt}
 use Rattle.rules.specs.Record.{freshOf, imageLen, ofCounter, ofPort, patternAt, registerCount, resetOf}
@@ -39,6 +39,7 @@ use Rattle.words.specs.Shown.{shownLine}
 use denote.Ref.{now}
 use lib.ListN.{drop, getD, length}
 use mathlib.Core.Bool.{_&&_, cond}
+use lib.Dec.{ltb}
 use Rattle.rules.specs.declared.Answer.{Answer}
 use Rattle.rules.specs.declared.Device.{Device}
 use Rattle.session.specs.declared.Fed.{Fed}
@@ -92,7 +93,10 @@ use Rattle.interrupts.proofs.vector_read as interrupts·vector-read
 use Rattle.interrupts.proofs.current_vector as interrupts·current-vector
 use Rattle.levels.proofs.port_enabled as levels·port-enabled
 use Rattle.levels.proofs.port_on as levels·port-on
-use Rattle.levels.proofs.handshakes_at as levels·handshakes-at
+use Rattle.levels.proofs.inputs_at as levels·inputs-at
+use Rattle.levels.proofs.outputs_at as levels·outputs-at
+use Rattle.levels.proofs.ackin_at as levels·ackin-at
+use Rattle.levels.proofs.offers_at as levels·offers-at
 use Rattle.levels.proofs.effective_at as levels·effective-at
 use Rattle.levels.proofs.direction_at as levels·direction-at
 use Rattle.levels.proofs.counter_on as levels·counter-on
@@ -104,13 +108,18 @@ use Rattle.lines.proofs.cut_from as lines·cut-from
 use Rattle.lines.proofs.event_of_line as lines·event-of-line
 use Rattle.moves.proofs.moves as moves·moves
 use Rattle.moves.proofs.given as moves·given
+use Rattle.moves.proofs.stored as moves·stored
 use Rattle.ports.proofs.spread as ports·spread
 use Rattle.ports.proofs.places as ports·places
 use Rattle.ports.proofs.on as ports·on
+use Rattle.ports.proofs.inputs as ports·inputs
+use Rattle.ports.proofs.outputs as ports·outputs
 use Rattle.ports.proofs.handshakes as ports·handshakes
 use Rattle.ports.proofs.depth as ports·depth
 use Rattle.ports.proofs.irf as ports·irf
+use Rattle.ports.proofs.ore as ports·ore
 use Rattle.ports.proofs.ready as ports·ready
+use Rattle.ports.proofs.available as ports·available
 use Rattle.read_access.proofs.read as read-access·read
 use Rattle.read_access.proofs.after_read as read-access·after-read
 use Rattle.sources.proofs.command as sources·command
@@ -279,7 +288,7 @@ module _ {M : Type 1} (𝓤 : URA M) where
       one-result 𝓤 image-in·clear.ended (image-in·clear.clauses 𝓤)
       (λ κs a.
       unusedClear (now (a .0)) (now (a .1 .0)) (now (a .1 .1 .0)) (now (a .1 .1 .1 .0)) (now (a .1 .1 .1 .1 .0))
-      && irfAgrees (now (a .0)) (now (a .1 .1 .1 .1 .0))) refl
+      && statesAgree (now (a .0)) (now (a .1 .1 .1 .1 .0))) refl
 
   pub image-out-bodies : OneResult 𝓤 image-out·bodies.ended (image-out·bodies.clauses 𝓤)
   image-out-bodies = one-result 𝓤 image-out·bodies.ended (image-out·bodies.clauses 𝓤) (λ κs a. bodiesOf (a .0)) refl
@@ -319,8 +328,17 @@ module _ {M : Type 1} (𝓤 : URA M) where
   pub levels-counter-on : OneResult 𝓤 levels·counter-on.ended (levels·counter-on.clauses 𝓤)
   levels-counter-on = one-result 𝓤 levels·counter-on.ended (levels·counter-on.clauses 𝓤) (λ κs a. counterOn (a .0) (a .1 .0)) refl
 
-  pub levels-handshakes-at : OneResult 𝓤 levels·handshakes-at.ended (levels·handshakes-at.clauses 𝓤)
-  levels-handshakes-at = one-result 𝓤 levels·handshakes-at.ended (levels·handshakes-at.clauses 𝓤) (λ κs a. handshakes (patternAt (a .0) (a .1 .0))) refl
+  pub levels-inputs-at : OneResult 𝓤 levels·inputs-at.ended (levels·inputs-at.clauses 𝓤)
+  levels-inputs-at = one-result 𝓤 levels·inputs-at.ended (levels·inputs-at.clauses 𝓤) (λ κs a. inputs (patternAt (a .0) (a .1 .0))) refl
+
+  pub levels-outputs-at : OneResult 𝓤 levels·outputs-at.ended (levels·outputs-at.clauses 𝓤)
+  levels-outputs-at = one-result 𝓤 levels·outputs-at.ended (levels·outputs-at.clauses 𝓤) (λ κs a. outputs (patternAt (a .0) (a .1 .0))) refl
+
+  pub levels-ackin-at : OneResult 𝓤 levels·ackin-at.ended (levels·ackin-at.clauses 𝓤)
+  levels-ackin-at = one-result 𝓤 levels·ackin-at.ended (levels·ackin-at.clauses 𝓤) (λ κs a. ackinAt (a .0) (a .1 .0)) refl
+
+  pub levels-offers-at : OneResult 𝓤 levels·offers-at.ended (levels·offers-at.clauses 𝓤)
+  levels-offers-at = one-result 𝓤 levels·offers-at.ended (levels·offers-at.clauses 𝓤) (λ κs a. offersAt (a .0) (a .1 .0)) refl
 
   pub levels-effective-at : OneResult 𝓤 levels·effective-at.ended (levels·effective-at.clauses 𝓤)
   levels-effective-at = one-result 𝓤 levels·effective-at.ended (levels·effective-at.clauses 𝓤) (λ κs a. effectiveAt (a .0) (a .1 .0)) refl
@@ -354,6 +372,9 @@ module _ {M : Type 1} (𝓤 : URA M) where
   pub moves-given : OneResult 𝓤 moves·given.ended (moves·given.clauses 𝓤)
   moves-given = one-result 𝓤 moves·given.ended (moves·given.clauses 𝓤) (λ κs a. givenAt (a .0) (a .1 .0)) refl
 
+  pub moves-stored : OneResult 𝓤 moves·stored.ended (moves·stored.clauses 𝓤)
+  moves-stored = one-result 𝓤 moves·stored.ended (moves·stored.clauses 𝓤) (λ κs a. cond (ltb (a .1 .0) 2) (storedAt (a .0) (a .1 .0) (a .1 .1 .0)) (a .0)) refl
+
   pub ports-spread : OneResult 𝓤 ports·spread.ended (ports·spread.clauses 𝓤)
   ports-spread = one-result 𝓤 ports·spread.ended (ports·spread.clauses 𝓤) (λ κs a. byteOf (λ k. (a .0))) refl
 
@@ -362,6 +383,12 @@ module _ {M : Type 1} (𝓤 : URA M) where
 
   pub ports-on : OneResult 𝓤 ports·on.ended (ports·on.clauses 𝓤)
   ports-on = one-result 𝓤 ports·on.ended (ports·on.clauses 𝓤) (λ κs a. byteOf (onAt (a .0))) refl
+
+  pub ports-inputs : OneResult 𝓤 ports·inputs.ended (ports·inputs.clauses 𝓤)
+  ports-inputs = one-result 𝓤 ports·inputs.ended (ports·inputs.clauses 𝓤) (λ κs a. inputs (a .0)) refl
+
+  pub ports-outputs : OneResult 𝓤 ports·outputs.ended (ports·outputs.clauses 𝓤)
+  ports-outputs = one-result 𝓤 ports·outputs.ended (ports·outputs.clauses 𝓤) (λ κs a. outputs (a .0)) refl
 
   pub ports-handshakes : OneResult 𝓤 ports·handshakes.ended (ports·handshakes.clauses 𝓤)
   ports-handshakes = one-result 𝓤 ports·handshakes.ended (ports·handshakes.clauses 𝓤) (λ κs a. handshakes (a .0)) refl
@@ -372,8 +399,14 @@ module _ {M : Type 1} (𝓤 : URA M) where
   pub ports-irf : OneResult 𝓤 ports·irf.ended (ports·irf.clauses 𝓤)
   ports-irf = one-result 𝓤 ports·irf.ended (ports·irf.clauses 𝓤) (λ κs a. irfOf (a .0) (a .1 .0)) refl
 
+  pub ports-ore : OneResult 𝓤 ports·ore.ended (ports·ore.clauses 𝓤)
+  ports-ore = one-result 𝓤 ports·ore.ended (ports·ore.clauses 𝓤) (λ κs a. oreOf (a .0) (a .1 .0)) refl
+
   pub ports-ready : OneResult 𝓤 ports·ready.ended (ports·ready.clauses 𝓤)
   ports-ready = one-result 𝓤 ports·ready.ended (ports·ready.clauses 𝓤) (λ κs a. readyOf (a .0) (a .1 .0) (a .1 .1 .0)) refl
+
+  pub ports-available : OneResult 𝓤 ports·available.ended (ports·available.clauses 𝓤)
+  ports-available = one-result 𝓤 ports·available.ended (ports·available.clauses 𝓤) (λ κs a. availableOf (a .0) (a .1 .0) (a .1 .1 .0) (a .1 .1 .1 .0)) refl
 
   pub read-access-read : OneResult 𝓤 read-access·read.ended (read-access·read.clauses 𝓤)
   read-access-read = one-result 𝓤 read-access·read.ended (read-access·read.clauses 𝓤) (λ κs a. readOf (a .0) (kindOf (a .1 .0))) refl
@@ -385,7 +418,7 @@ module _ {M : Type 1} (𝓤 : URA M) where
   sources-command = one-result 𝓤 sources·command.ended (sources·command.clauses 𝓤) (λ κs a. commanded (a .0) (a .1 .0)) refl
 
   pub sources-port-command : OneResult 𝓤 sources·port-command.ended (sources·port-command.clauses 𝓤)
-  sources-port-command = one-result 𝓤 sources·port-command.ended (sources·port-command.clauses 𝓤) (λ κs a. portCommandOf (a .0) (a .1 .0) (a .1 .1 .0)) refl
+  sources-port-command = one-result 𝓤 sources·port-command.ended (sources·port-command.clauses 𝓤) (λ κs a. portCommandOf (a .0) (a .1 .0) (a .1 .1 .0) (a .1 .1 .1 .0)) refl
 
   pub sources-counter-command : OneResult 𝓤 sources·counter-command.ended (sources·counter-command.clauses 𝓤)
   sources-counter-command =

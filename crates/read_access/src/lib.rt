@@ -18,7 +18,8 @@ fn port_command(d: Device, p: usize) -> u8
 {
     let k = Source::of_port(p);
     let q = d.patterns[p];
-    sources::port_command(d.sources[k], q, ports::irf(q, d.transfers[p]))
+    let t = d.transfers[p];
+    sources::port_command(d.sources[k], q, ports::ore(q, t), ports::irf(q, t))
 }
 
 fn counter_command(d: Device, i: usize) -> u8
@@ -86,12 +87,12 @@ fn thaw(d: Device, i: usize) -> Device
     e
 }
 
-// Whether the read is of the data of a port with handshake.
+// Whether the read is of the data of an input port with handshake.
 fn reads_byte(d: Device, address: u32) -> bool
     ensures { λ r. ⌜ r ≡ readsByte d address ⌝ }
 {
     if (0x0D <= address) & (address <= 0x0E) {
-        return levels::handshakes_at(d, (address - 0x0D) as usize);
+        return levels::inputs_at(d, (address - 0x0D) as usize);
     }
     false
 }

@@ -4,7 +4,7 @@ ghost use mathlib.Core.Bool.{_&&_, cond};
 ghost use Rattle.basics.specs.Signs.{if_then_else_, _==_};
 ghost use Rattle.rules.specs.Registers.{readOnly, later};
 ghost use Rattle.rules.specs.Interrupts.{requester};
-ghost use Rattle.rules.specs.Events.{isW, isK, unknown, noRegister, tooLarge, held, noByte, codeOf};
+ghost use Rattle.rules.specs.Events.{isW, isK, unknown, noRegister, tooLarge, held, noByte, noRoom, codeOf};
 use crate::settings;
 use crate::soundness::sound;
 use rules::Device;
@@ -59,13 +59,25 @@ fn is_unrequested(d: Device, e: Event) -> bool
     false
 }
 
-// The read of the data of a port with handshake that holds no byte.
+// The read of the data of an input port that holds no byte.
 fn has_no_byte(d: Device, e: Event) -> bool
     ensures { λ r. ⌜ r ≡ noByte d e ⌝ }
 {
     if (e.kind == Event::R) & (0x0D <= e.a) & (e.a <= 0x0E) {
         let p = (e.a - 0x0D) as usize;
-        return ports::handshakes(d.patterns[p]) & (d.transfers[p].bytes == 0);
+        return ports::inputs(d.patterns[p]) & (d.transfers[p].bytes == 0);
+    }
+    false
+}
+
+// The write of the data of an output port that has no room.
+fn has_no_room(d: Device, e: Event) -> bool
+    ensures { λ r. ⌜ r ≡ noRoom d e ⌝ }
+{
+    if (e.kind == Event::W) & (0x0D <= e.a) & (e.a <= 0x0E) {
+        let p = (e.a - 0x0D) as usize;
+        let q = d.patterns[p];
+        return ports::outputs(q) & !ports::ore(q, d.transfers[p]);
     }
     false
 }
@@ -80,13 +92,14 @@ fn or_else(refused: bool, code: u8, rest: u8) -> u8
     rest
 }
 
-// "Order: 9, 1, 2, 5, reset hold, 3, 4, 6.", 11 after 3, from the last to the first.
+// "Order: 9, 1, 2, 5, reset hold, 3, 4, 6.", 11 after 3, 10 after 11, from the last to the first.
 pub fn code_of(d: Device, e: Event) -> u8
     ensures { λ r. ⌜ r ≡ codeOf d e ⌝ }
 {
     let from_6 = or_else(is_unrequested(d, e), 6, 0);
     let from_4 = or_else(is_later(d, e), 4, from_6);
-    let from_11 = or_else(has_no_byte(d, e), 11, from_4);
+    let from_10 = or_else(has_no_room(d, e), 10, from_4);
+    let from_11 = or_else(has_no_byte(d, e), 11, from_10);
     let from_3 = or_else(is_read_only(e), 3, from_11);
     let from_hold = or_else(is_held(d, e), 0, from_3);
     let from_5 = or_else(is_too_large(e), 5, from_hold);

@@ -8,9 +8,9 @@ use rules::Device;
 
 // The last of the port types that are not left to later requests: version 1 has bit ports alone.
 fn last_type(version: u8) -> u32
-    ensures { λ r. ⌜ r ≡ cond (version == 1) 0 1 ⌝ }
+    ensures { λ r. ⌜ r ≡ cond (version == 1) 0 2 ⌝ }
 {
-    if version == 1 { 0 } else { 1 }
+    if version == 1 { 0 } else { 2 }
 }
 
 pub(crate) fn later_port_mode(version: u8, b: u32) -> bool
@@ -24,7 +24,8 @@ pub(crate) fn later_handshake(m: u32, h: u32) -> bool
     ensures { λ r. ⌜ r ≡ laterHandshake m h ⌝ }
 {
     let both = (m / 32 % 2 == 1) & (m / 16 % 2 == 1);
-    (m / 64 == 1) & (!(m / 2 % 8 == 0) | both | (1 < h / 64) | !(h / 8 % 8 == 0))
+    let handshakes = (m / 64 == 1) | (m / 64 == 2);
+    handshakes & (!(m / 2 % 8 == 0) | both | (1 < h / 64) | !(h / 8 % 8 == 0))
 }
 
 pub(crate) fn later_config(b: u32) -> bool

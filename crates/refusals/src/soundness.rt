@@ -120,13 +120,14 @@ fn held_only(enabled: bool, q: Pattern, t: Transfer) -> bool
         | ((t.front == 0) & (t.behind == 0) & (t.bytes == 0) & !t.unfinished & !t.pair)
 }
 
-fn sound_transfer(enabled: bool, q: Pattern, s: Source, t: Transfer) -> bool
-    ensures { λ r. ⌜ r ≡ soundTransfer enabled q s t ⌝ }
+fn sound_transfer(enabled: bool, output: u8, q: Pattern, s: Source, t: Transfer) -> bool
+    ensures { λ r. ⌜ r ≡ soundTransfer enabled output q s t ⌝ }
 {
     let bytes = (!(t.bytes == 0) | (t.front == 0)) & (!(t.bytes < 2) | (t.behind == 0));
     let unfinished = !t.unfinished | !(q.handshake / 64 == 1);
     let pair = !t.pair | (s.ip & (q.mode / 32 % 2 == 1));
-    held_only(enabled, q, t) & (t.bytes <= ports::depth(q)) & bytes & unfinished & pair
+    let front = !(ports::outputs(q) & !(t.bytes == 0)) | (output == t.front);
+    held_only(enabled, q, t) & (t.bytes <= ports::depth(q)) & bytes & unfinished & pair & front
 }
 
 fn sound_transfer_at(d: Device, p: usize) -> bool
@@ -134,7 +135,13 @@ fn sound_transfer_at(d: Device, p: usize) -> bool
     ensures { λ r. ⌜ r ≡ soundTransferAt d p ⌝ }
 {
     let s = d.sources[Source::of_port(p)];
-    sound_transfer(levels::port_enabled(d, p), d.patterns[p], s, d.transfers[p])
+    sound_transfer(
+        levels::port_enabled(d, p),
+        d.ports[p].output,
+        d.patterns[p],
+        s,
+        d.transfers[p],
+    )
 }
 
 fn sound_transfers(d: Device) -> bool

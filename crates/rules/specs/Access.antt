@@ -17,16 +17,16 @@ use Rattle.basics.specs.Byte.{bit, byteIn, withByte}
 use Rattle.rules.specs.With.{withMaster, withConfig, withVector, withPort, withPattern, withPair, withTransfer, withTransfers, withCounter, withCounters, withSource, withPolarity}
 use Rattle.rules.specs.With.{withDirection, withSpecial, withConstant, withMode, withPortMode, withHandshake, withPatternPolarity, withTransition, withMask, withIoe}
 use Rattle.rules.specs.Record.{portAt, patternAt, transferAt, counterAt, sourceAt, vacant, ofPort, ofCounter, resetOf}
-use Rattle.rules.specs.Registers.{kept, portOn, counterOn, counterEnabled, commanded, portCommandOf, counterCommandOf}
-use Rattle.rules.specs.Handshakes.{handshakes, irfAt}
+use Rattle.rules.specs.Registers.{kept, portOn, portEnabled, counterOn, counterEnabled, commanded, portCommandOf, counterCommandOf}
+use Rattle.rules.specs.Handshakes.{inputs, outputs, irfAt, oreAt}
 use Rattle.rules.specs.PortData.{directionAt, dataAt, writtenData}
-use Rattle.rules.specs.Moves.{givenAt}
+use Rattle.rules.specs.Moves.{givenAt, storedAt}
 use Rattle.rules.specs.Counters.{commandedBy, thawed, shown, enabledBy}
 use Rattle.rules.specs.Interrupts.{vectorRead, currentVector}
 
 -- the command registers of port p and of counter i, as read
 unfoldable pub portCommand : Device → ℕ → ℕ
-portCommand d p = portCommandOf (sourceAt d (ofPort p)) (patternAt d p) (irfAt d p)
+portCommand d p = portCommandOf (sourceAt d (ofPort p)) (patternAt d p) (oreAt d p) (irfAt d p)
 
 unfoldable pub counterCommand : Device → ℕ → ℕ
 counterCommand d i = counterCommandOf (sourceAt d (ofCounter i)) (counterAt d i)
@@ -53,9 +53,12 @@ readOf d (Transition p) = patternAt d p .transition
 readOf d (Mask p) = patternAt d p .mask
 readOf d Absent = 0
 
--- the read of the data of a port with handshake, at 0DH or 0EH
+-- the read of the data of an input port with handshake, at 0DH or 0EH; and the write of an output port's
 unfoldable pub readsByte : Device → ℕ → Bool
-readsByte d a = within 0x0D 0x0E a && handshakes (patternAt d (a - 0x0D))
+readsByte d a = within 0x0D 0x0E a && inputs (patternAt d (a - 0x0D))
+
+unfoldable pub writesByte : Device → ℕ → Bool
+writesByte d a = within 0x0D 0x0E a && outputs (patternAt d (a - 0x0D))
 
 -- "reading that low byte returns it, then RCC = 0": the record after the read of address a; the low bytes are 11H, 13H, 15H
 unfoldable pub afterRead : Device → ℕ → Device
@@ -97,6 +100,13 @@ unfoldable pub counterCommanded : Device → ℕ → ℕ → Device
 counterCommanded d i b =
     withSource (withCounter d i (commandedBy (counterEnabled d i) b (counterAt d i))) (ofCounter i) (commanded (sourceAt d (ofCounter i)) (b / 32))
 
+-- a write to the data of port p. Paper 02, W-206: an enabled output port holds the byte; a disabled one holds nothing, and the byte is
+-- stored in its data register alone
+unfoldable pub dataWritten : Device → ℕ → ℕ → Device
+dataWritten d p b =
+    if outputs (patternAt d p) && portEnabled d p then storedAt d p b else
+    withPort d p (writtenData (portAt d p) (directionAt d p) p b)
+
 -- paper 02, W-203: "writing its mode or handshake register drops them": the port p, set up anew
 abbrev pub setUp : Device → ℕ → Pattern → Device
 setUp d p q = withTransfer (withPattern d p q) p vacant
@@ -111,7 +121,7 @@ writtenOf d (Direction p) b = withPort d p (withDirection (portAt d p) (kept p b
 writtenOf d (Special p) b = withPort d p (withSpecial (portAt d p) (kept p b))
 writtenOf d (PortCommand p) b = portCommanded d p b
 writtenOf d (CounterCommand i) b = counterCommanded d i b
-writtenOf d (Data p) b = withPort d p (writtenData (portAt d p) (directionAt d p) p b)
+writtenOf d (Data p) b = dataWritten d p b
 writtenOf d (Current i high) b = d
 writtenOf d (Constant i high) b = withCounter d i (withConstant (counterAt d i) (withByte high (counterAt d i .constant) b))
 writtenOf d (CounterMode i) b = withCounter d i (withMode (counterAt d i) b)

@@ -12,14 +12,14 @@ use Rattle.rules.specs.declared.Outcome.{Outcome}
 use Rattle.rules.specs.declared.Effect.{Effect}
 use Rattle.rules.specs.With.{withOutside, withPorts, withIei}
 use Rattle.rules.specs.Record.{registerCount, portAt, resetOf}
-use Rattle.rules.specs.Handshakes.{irfAt}
+use Rattle.rules.specs.Handshakes.{irfAt, oreAt}
 use Rattle.rules.specs.Moves.{movesOf}
 use Rattle.rules.specs.Report.{noReport}
 use Rattle.rules.specs.Registers.{kindOf, reset, readOnly, later}
 use Rattle.rules.specs.PortData.{pinsAt}
 use Rattle.rules.specs.Interrupts.{requester, intOf, ieoOf, acknowledged, acknowledge}
 use Rattle.rules.specs.Step.{stepOf, ranOf}
-use Rattle.rules.specs.Access.{readOf, readsByte, afterRead, writtenOf}
+use Rattle.rules.specs.Access.{readOf, readsByte, writesByte, afterRead, writtenOf}
 use Rattle.rules.specs.Sound.{soundOf}
 
 -- "X .. W .. R .. P .. T .. K .. E .. Kinds are numbered 0 to 6 in this order."
@@ -62,11 +62,14 @@ tooLarge e =
 unfoldable pub held : Device → Event → Bool
 held d e = reset d && isW e && not (e .a == 0x00)
 
--- paper 02, W-203: "11 for a data read with IRF 0", of a port with handshake
+-- paper 02, W-203: "11 for a data read with IRF 0", of an input port; W-206: "10 for a data write with ORE 0", of an output port
 unfoldable pub noByte : Device → Event → Bool
 noByte d e = isR e && readsByte d (e .a) && not (irfAt d (e .a - 0x0D))
 
--- "Order: 9, 1, 2, 5, reset hold, 3, 4, 6."; 11 "after 3"
+unfoldable pub noRoom : Device → Event → Bool
+noRoom d e = isW e && writesByte d (e .a) && not (oreAt d (e .a - 0x0D))
+
+-- "Order: 9, 1, 2, 5, reset hold, 3, 4, 6."; 11 "after 3", 10 "after 11"
 unfoldable pub codeOf : Device → Event → ℕ
 codeOf d e =
     if not (soundOf d) then 9 else
@@ -76,6 +79,7 @@ codeOf d e =
     if held d e then 0 else
     if isW e && readOnly (e .a) then 3 else
     if noByte d e then 11 else
+    if noRoom d e then 10 else
     if isW e && later d (e .a) (e .b) then 4 else
     if isK e && requester d == 5 then 6 else
     0

@@ -11,7 +11,7 @@ use Rattle.basics.specs.Signs.{if_then_else_, _==_}
 use Rattle.basics.specs.Byte.{num}
 use Rattle.rules.specs.With.{withIus, withIp, withHidden, withSource}
 use Rattle.rules.specs.Record.{vectorAt, patternAt, sourceAt, ofPort}
-use Rattle.rules.specs.Handshakes.{irfAt}
+use Rattle.rules.specs.Handshakes.{irfAt, oreAt}
 use Rattle.rules.specs.Registers.{mie, dlc, nv, vis}
 
 -- "An event (terminal or match) with IP = 0 sets IP. With IP = 1 and ERR = 0 it sets a hidden error (ports: only if IOE)."
@@ -86,14 +86,16 @@ vectorOf k = if k == ofPort 0 then 0 else if k == ofPort 1 then 1 else 2
 unfoldable pub counterStatus : ℕ → ℕ → Bool → ℕ
 counterStatus base n err = base / 8 * 8 + 2 * (if err then 3 else n % 4) + base % 2
 
--- "ports put 0, 0, PMF in D3-D1, or 000 with ERR"; paper 02, W-203: "IRF is D2 .. of the vector status"
-unfoldable pub portStatus : ℕ → Bool → Bool → Bool → ℕ
-portStatus base irf pmf err = base / 16 * 16 + 4 * num (irf && not err) + 2 * num (pmf && not err) + base % 2
+-- "ports put 0, 0, PMF in D3-D1, or 000 with ERR"; paper 02, W-203: "IRF is D2 .. of the vector status"; W-206:
+-- "ORE is D3 as IRF is D2."
+unfoldable pub portStatus : ℕ → Bool → Bool → Bool → Bool → ℕ
+portStatus base ore irf pmf err =
+    base / 16 * 16 + 8 * num (ore && not err) + 4 * num (irf && not err) + 2 * num (pmf && not err) + base % 2
 
 -- "With VIS" is with status: the vector of source k with it
 unfoldable pub withStatus : Device → ℕ → ℕ
 withStatus d k =
-    if k % 2 == 1 then portStatus (vectorAt d (vectorOf k)) (irfAt d (k / 2)) (patternAt d (k / 2) .pmf) (sourceAt d k .err)
+    if k % 2 == 1 then portStatus (vectorAt d (vectorOf k)) (oreAt d (k / 2)) (irfAt d (k / 2)) (patternAt d (k / 2) .pmf) (sourceAt d k .err)
     else counterStatus (vectorAt d (vectorOf k)) (k / 2) (sourceAt d k .err)
 
 -- the vector of source k, with status if its VIS says so

@@ -11,7 +11,7 @@ use Rattle.basics.specs.Byte.{bit, differs, byteOf}
 use Rattle.rules.specs.With.{withDirection, withSpecial, withOutput, withCatcher}
 use Rattle.rules.specs.Record.{portAt, patternAt, transferAt, counterAt}
 use Rattle.rules.specs.Registers.{portEnabled}
-use Rattle.rules.specs.Handshakes.{handshakes, readyAt, isLine}
+use Rattle.rules.specs.Handshakes.{inputs, outputs, shownAt, isLine}
 use Rattle.rules.specs.Counters.{outputEnabled, outputOf}
 
 -- "An enabled port's output drives its value XOR polarity; open-drain (special 1) drives only low.
@@ -58,19 +58,20 @@ unfoldable pub levelOf : Port → ℕ → ℕ
 levelOf q pins = byteOf (λ k. differs (bit pins k) (bit (q .polarity) k))
 
 -- ---- the ports of the device: 0 is A, 1 is B, 2 is C
--- Paper 02, W-203: the direction that is in effect. A port with handshake has inputs, of its lines ACKIN is one and RFD an output,
--- "whatever direction and special registers hold".
+-- Paper 02, W-203 and W-206: the direction that is in effect. An input port has inputs, an output port outputs; of the lines ACKIN is
+-- an input, RFD or DAV an output, "whatever direction and special registers hold".
 unfoldable pub directionAt : Device → ℕ → ℕ
 directionAt d p =
     if p == 2 then byteOf (λ k. if isLine d k then k % 2 == 0 else bit (portAt d p .direction) k) else
-    if handshakes (patternAt d p) then 0xFF else
+    if inputs (patternAt d p) then 0xFF else
+    if outputs (patternAt d p) then 0x00 else
     portAt d p .direction
 
--- "these bits have no catcher": special 1 is in effect at none of them but RFD, an output
+-- "these bits have no catcher": special 1 is in effect at none of them that is an input
 unfoldable pub specialAt : Device → ℕ → ℕ
 specialAt d p =
     if p == 2 then byteOf (λ k. not (isLine d k && k % 2 == 0) && bit (portAt d p .special) k) else
-    if handshakes (patternAt d p) then 0x00 else
+    if inputs (patternAt d p) then 0x00 else
     portAt d p .special
 
 -- the port with what is in effect
@@ -81,15 +82,16 @@ effectiveAt d p = withSpecial (withDirection (portAt d p) (directionAt d p)) (sp
 unfoldable pub standing : ℕ → Counter → ℕ → ℕ → ℕ
 standing version c k x = byteOf (λ j. if j == k && outputEnabled c then outputOf version c else bit x j)
 
--- the byte x of Port C with the ready lines in their places
+-- the byte x of Port C with the lines that ports A and B show in their places
 unfoldable pub lined : Device → ℕ → ℕ
-lined d x = byteOf (λ k. if isLine d k && k % 2 == 1 then readyAt d (1 - k / 2) else bit x k)
+lined d x = byteOf (λ k. if isLine d k && k % 2 == 1 then shownAt d (1 - k / 2) else bit x k)
 
--- "CT1 output .. PB4 ..; CT2 PB0 ..; CT3 PC0": the value that port p puts out. ("No counter output stands for a bit of a handshake
--- port or of its lines": those at which one could stand are inputs, which put nothing out.)
+-- "CT1 output .. PB4 ..; CT2 PB0 ..; CT3 PC0": the value that port p puts out. W-206: "The byte put out last stays in the data
+-- register". "No counter output stands for a bit of a handshake port or of its lines": those of an input port and ACKIN are inputs,
+-- which put nothing out.
 unfoldable pub valueAt : Device → ℕ → ℕ
 valueAt d p =
-    if p == 0 then portAt d p .output else
+    if p == 0 || outputs (patternAt d p) then portAt d p .output else
     if p == 1 then standing (d .version) (counterAt d 0) 4 (standing (d .version) (counterAt d 1) 0 (portAt d p .output)) else
     lined d (standing (d .version) (counterAt d 2) 0 (portAt d p .output))
 
@@ -103,11 +105,12 @@ pathAt d p = pathOf (effectiveAt d p) (pinsAt d p) (valueAt d p)
 unfoldable pub seenAt : Device → ℕ → ℕ
 seenAt d p = seenOf (portEnabled d p) (effectiveAt d p) (pathAt d p)
 
--- "A and B read path values, outputs included; C reads pin XOR polarity." A port with handshake reads its front byte.
+-- "A and B read path values, outputs included; C reads pin XOR polarity." An input port with
+-- handshake reads its front byte; of an output port "reads return" the byte put out last, its path value.
 unfoldable pub dataAt : Device → ℕ → ℕ
 dataAt d p =
     if p == 2 then seenOf (portEnabled d p) (effectiveAt d p) (levelOf (portAt d p) (pinsAt d p)) else
-    if handshakes (patternAt d p) then transferAt d p .front else
+    if inputs (patternAt d p) then transferAt d p .front else
     seenAt d p
 
 -- ---- a write of data

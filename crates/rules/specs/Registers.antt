@@ -96,15 +96,15 @@ kept p b = if p == 2 then b % 16 else b
 unfoldable pub readOnly : ℕ → Bool
 readOnly a = within 0x10 0x15 a || a == 0x1F
 
--- "20H/28H with D7-D6 not 00, D2-D1 = 11 or D0 = 1". Paper 02, W-203: "Code 4 no longer covers D7-D6 = 01."; W-205: "A
--- version 1 device refuses handshake settings with 4."
+-- "20H/28H with D7-D6 not 00, D2-D1 = 11 or D0 = 1". Paper 02, W-206: "Code 4 then covers only D7-D6 = 11 of the four
+-- port types."; W-205: "A version 1 device refuses handshake settings with 4."
 unfoldable pub laterPortMode : ℕ → ℕ → Bool
-laterPortMode version b = ltb (if version == 1 then 0 else 1) (b / 64) || b / 2 % 4 == 3 || bit b 0
+laterPortMode version b = ltb (if version == 1 then 0 else 2) (b / 64) || b / 2 % 4 == 3 || bit b 0
 
 -- "It now covers a handshake port with D3-D1 not 000, with ITB and SB, or whose register 21H or 29H has D7-D6 = 10 or 11 (Pulsed,
 -- 3-Wire) or D5-D3 not 000 (REQUEST/WAIT)": of the bytes of both registers
 unfoldable pub laterHandshake : ℕ → ℕ → Bool
-laterHandshake m h = m / 64 == 1 && (not (m / 2 % 8 == 0) || (bit m 5 && bit m 4) || ltb 1 (h / 64) || not (h / 8 % 8 == 0))
+laterHandshake m h = (m / 64 == 1 || m / 64 == 2) && (not (m / 2 % 8 == 0) || (bit m 5 && bit m 4) || ltb 1 (h / 64) || not (h / 8 % 8 == 0))
 
 -- "01H with D3 = 1"
 unfoldable pub laterConfig : ℕ → Bool
@@ -146,9 +146,11 @@ commanded s n =
 unfoldable pub statusOf : Source → ℕ
 statusOf s = (if s .ius then 128 else 0) + (if s .ie then 64 else 0) + (if s .ip then 32 else 0) + (if s .err then 16 else 0)
 
--- "Port: D1 PMF, D0 IOE (written), D3-D2 read 0." Paper 02, W-203: "IRF is D2 of the command register".
-abbrev pub portCommandOf : Source → Pattern → Bool → ℕ
-portCommandOf s q irf = statusOf s + ((if irf then 4 else 0) + (if q .pmf then 2 else 0) + (if q .ioe then 1 else 0))
+-- "Port: D1 PMF, D0 IOE (written), D3-D2 read 0." Paper 02, W-203: "IRF is D2 of the command register"; W-206: "ORE is D3 as IRF
+-- is D2."
+abbrev pub portCommandOf : Source → Pattern → Bool → Bool → ℕ
+portCommandOf s q ore irf =
+    statusOf s + ((if ore then 8 else 0) + (if irf then 4 else 0) + (if q .pmf then 2 else 0) + (if q .ioe then 1 else 0))
 
 -- "Counter: D3 RCC, D2 GCB, D1 trigger (reads 0), D0 CIP."
 abbrev pub counterCommandOf : Source → Counter → ℕ

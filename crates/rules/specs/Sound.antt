@@ -13,7 +13,7 @@ use Rattle.basics.specs.Signs.{_==_}
 use Rattle.basics.specs.Byte.{bit, every, any}
 use Rattle.rules.specs.Record.{vectorAt, portAt, patternAt, transferAt, counterAt, sourceAt, vacant, ofPort, resetOf}
 use Rattle.rules.specs.Registers.{reset, portEnabled, counterEnabled, laterConfig, laterPortMode, laterHandshake, laterCounterMode}
-use Rattle.rules.specs.Handshakes.{handshakes, itb, strobed, depth}
+use Rattle.rules.specs.Handshakes.{outputs, handshakes, itb, strobed, depth}
 use Rattle.rules.specs.PortData.{catchesAt, effectiveAt, pathAt}
 use Rattle.rules.specs.Patterns.{isAnd, isOr, onAt}
 
@@ -81,7 +81,7 @@ soundPort enabled q path = catcherOnly enabled q && catcherSet enabled q path
 unfoldable pub pmfOnly : Bool → Pattern → Bool
 pmfOnly enabled p = only (p .pmf) (enabled && (isAnd p || isOr p) && any (onAt p))
 
--- ---- paper 02, W-203: what a port with handshake may hold
+-- ---- paper 02, W-203 and W-206: what a port with handshake may hold
 unfoldable pub sameTransfer : Transfer → Transfer → Bool
 sameTransfer t u =
     t .front == u .front && t .behind == u .behind && t .bytes == u .bytes && Bool·beq (t .unfinished) (u .unfinished) && Bool·beq (t .pair) (u .pair)
@@ -106,8 +106,13 @@ unfinishedOnly q t = only (t .unfinished) (not (strobed q))
 unfoldable pub pairOnly : Pattern → Source → Transfer → Bool
 pairOnly q s t = only (t .pair) (s .ip && itb q)
 
-unfoldable pub soundTransfer : Bool → Pattern → Source → Transfer → Bool
-soundTransfer enabled q s t = heldOnly enabled q t && roomOnly q t && bytesOnly t && unfinishedOnly q t && pairOnly q s t
+-- W-206: "The byte put out last stays in the data register": while one is held, the front byte is that one
+unfoldable pub frontOnly : ℕ → Pattern → Transfer → Bool
+frontOnly output q t = only (outputs q && not (t .bytes == 0)) (output == t .front)
+
+unfoldable pub soundTransfer : Bool → ℕ → Pattern → Source → Transfer → Bool
+soundTransfer enabled output q s t =
+    heldOnly enabled q t && roomOnly q t && bytesOnly t && unfinishedOnly q t && pairOnly q s t && frontOnly output q t
 
 -- ---- two records are the same
 unfoldable pub sameSource : Source → Source → Bool
@@ -181,7 +186,7 @@ unfoldable pub soundPatterns : Device → Bool
 soundPatterns d = pmfOnly (portEnabled d 0) (patternAt d 0) && pmfOnly (portEnabled d 1) (patternAt d 1)
 
 unfoldable pub soundTransferAt : Device → ℕ → Bool
-soundTransferAt d p = soundTransfer (portEnabled d p) (patternAt d p) (sourceAt d (ofPort p)) (transferAt d p)
+soundTransferAt d p = soundTransfer (portEnabled d p) (portAt d p .output) (patternAt d p) (sourceAt d (ofPort p)) (transferAt d p)
 
 unfoldable pub soundTransfers : Device → Bool
 soundTransfers d = soundTransferAt d 0 && soundTransferAt d 1

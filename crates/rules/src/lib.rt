@@ -2,7 +2,7 @@
 // The rules over them are in specs/, in the paper's words.
 ghost use mathlib.Core.Path.{_≡_};
 ghost use Prim.Native.Nat.{_%_};
-ghost use Rattle.rules.specs.Record.{freshOf, imageLen, registerCount, ofPort, ofCounter};
+ghost use Rattle.rules.specs.Record.{quiet, idle, bare, blank, vacant, freshOf, imageLen, registerCount, ofPort, ofCounter};
 ghost use Rattle.rules.specs.Registers.{reset};
 
 // One of the five interrupt sources: what its command register shows, and the hidden error, which none does.
@@ -39,6 +39,19 @@ impl Source {
     {
         Source::CT1 - 2 * (i % 3)
     }
+
+    // As a reset leaves it.
+    fn quiet() -> Self
+        ensures { λ r. ⌜ r ≡ quiet ⌝ }
+    {
+        Source {
+            ius: false,
+            ie: false,
+            ip: false,
+            err: false,
+            hidden: false,
+        }
+    }
 }
 
 // One of the three counter/timers. `frozen` is what 10H-15H read while RCC is 1; `pulse` stands from a terminal on.
@@ -54,6 +67,25 @@ pub struct Counter {
     pub pulse: bool,
 }
 
+impl Counter {
+    // As a reset leaves it.
+    fn idle() -> Self
+        ensures { λ r. ⌜ r ≡ idle ⌝ }
+    {
+        Counter {
+            mode: 0,
+            constant: 0,
+            count: 0,
+            frozen: 0,
+            rcc: false,
+            gcb: false,
+            cip: false,
+            half: false,
+            pulse: false,
+        }
+    }
+}
+
 // The data of one of the ports A, B and C: three settings, the output register, the outside levels, the catchers.
 pub struct Port {
     pub polarity: u8,
@@ -62,6 +94,22 @@ pub struct Port {
     pub output: u8,
     pub outside: u8,
     pub catcher: u8,
+}
+
+impl Port {
+    // As a reset leaves it, with nothing outside.
+    fn bare() -> Self
+        ensures { λ r. ⌜ r ≡ bare 0 ⌝ }
+    {
+        Port {
+            polarity: 0,
+            direction: 0,
+            special: 0,
+            output: 0,
+            outside: 0,
+            catcher: 0,
+        }
+    }
 }
 
 // What ports A and B have and C has not: mode, handshake, pattern, IOE and PMF.
@@ -75,14 +123,46 @@ pub struct Pattern {
     pub pmf: bool,
 }
 
+impl Pattern {
+    // As a reset leaves it.
+    fn blank() -> Self
+        ensures { λ r. ⌜ r ≡ blank ⌝ }
+    {
+        Pattern {
+            mode: 0,
+            handshake: 0,
+            polarity: 0,
+            transition: 0,
+            mask: 0,
+            ioe: false,
+            pmf: false,
+        }
+    }
+}
+
 // What a port with handshake holds: the front byte, the byte behind it, how many are held, a transfer that is unfinished,
-// and a pair of reads half done.
+// and a pair of reads or writes half done.
 pub struct Transfer {
     pub front: u8,
     pub behind: u8,
     pub bytes: u8,
     pub unfinished: bool,
     pub pair: bool,
+}
+
+impl Transfer {
+    // Nothing held.
+    fn vacant() -> Self
+        ensures { λ r. ⌜ r ≡ vacant ⌝ }
+    {
+        Transfer {
+            front: 0,
+            behind: 0,
+            bytes: 0,
+            unfinished: false,
+            pair: false,
+        }
+    }
 }
 
 // The device. `version` is 1 or 2, of its pulse and its image; `vectors` are A, B, CT; `ports` A, B, C; `patterns` and `transfers` A, B; `counters` 1, 2, 3;
@@ -113,48 +193,11 @@ impl Device {
     pub fn fresh() -> Self
         ensures { λ r. ⌜ r ≡ freshOf ⌝ }
     {
-        let port = Port {
-            polarity: 0,
-            direction: 0,
-            special: 0,
-            output: 0,
-            outside: 0,
-            catcher: 0,
-        };
-        let pattern = Pattern {
-            mode: 0,
-            handshake: 0,
-            polarity: 0,
-            transition: 0,
-            mask: 0,
-            ioe: false,
-            pmf: false,
-        };
-        let transfer = Transfer {
-            front: 0,
-            behind: 0,
-            bytes: 0,
-            unfinished: false,
-            pair: false,
-        };
-        let counter = Counter {
-            mode: 0,
-            constant: 0,
-            count: 0,
-            frozen: 0,
-            rcc: false,
-            gcb: false,
-            cip: false,
-            half: false,
-            pulse: false,
-        };
-        let source = Source {
-            ius: false,
-            ie: false,
-            ip: false,
-            err: false,
-            hidden: false,
-        };
+        let port = Port::bare();
+        let pattern = Pattern::blank();
+        let transfer = Transfer::vacant();
+        let counter = Counter::idle();
+        let source = Source::quiet();
         Device {
             version: 2,
             master: 1,

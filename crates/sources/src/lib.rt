@@ -72,10 +72,11 @@ fn status(s: Source) -> u8
 }
 
 // What the command register of a port reads.
-pub fn port_command(s: Source, q: Pattern, irf: bool) -> u8
-    ensures { λ r. ⌜ r ≡ portCommandOf s q irf ⌝ }
+pub fn port_command(s: Source, q: Pattern, ore: bool, irf: bool) -> u8
+    ensures { λ r. ⌜ r ≡ portCommandOf s q ore irf ⌝ }
 {
-    status(s) + (basics::weight(irf, 4) + basics::weight(q.pmf, 2) + basics::weight(q.ioe, 1))
+    let state = basics::weight(ore, 8) + basics::weight(irf, 4);
+    status(s) + (state + basics::weight(q.pmf, 2) + basics::weight(q.ioe, 1))
 }
 
 // What the command register of a counter reads.

@@ -2,7 +2,7 @@
 -- Assumes nothing.
 use Prim.Native.Nat.{ℕ, zero, suc, _-_, _<_}
 use mathlib.Core.Path.{_≡_, refl, sym, subst, _∙_}
-use mathlib.Core.Bool.{Bool, true, false, not, _&&_, _||_, cond, So, true≢false, and-false}
+use mathlib.Core.Bool.{Bool, true, false, not, _&&_, _||_, cond, So, true≢false, and-assoc, and-false}
 use mathlib.Core.List.{List, [], _∷_}
 use native.Mathlib.Omega.{arith}
 use lib.Dec.{eqb, ltb}
@@ -12,16 +12,17 @@ use Rattle.rules.specs.declared.Device.{Device}
 use Rattle.rules.specs.declared.Event.{Event}
 use Rattle.rules.specs.declared.Effect.{Effect}
 use Rattle.rules.specs.declared.Ran.{Ran}
+use Rattle.rules.specs.Record.{Shaped}
 use Rattle.rules.specs.With.{withPhase}
 use Rattle.rules.specs.Report.{noReport}
 use Rattle.rules.specs.Registers.{kindIn, kindOf, reset, readOnly, later}
 use Rattle.rules.specs.Interrupts.{requester}
 use Rattle.rules.specs.Step.{stepOf, reported, clockOf, ranOf}
 use Rattle.basics.specs.Iterate.{iterate}
-use Rattle.rules.specs.Handshakes.{irfAt}
+use Rattle.rules.specs.Handshakes.{irfAt, oreAt}
 use Rattle.rules.specs.Moves.{movesOf}
-use Rattle.rules.specs.Access.{readOf, readsByte, afterRead, writtenOf}
-use Rattle.rules.specs.Events.{isX, isW, isR, isP, isT, isK, isE, unknown, noRegister, tooLarge, held, noByte, codeOf, effect, writeEffect}
+use Rattle.rules.specs.Access.{readOf, readsByte, writesByte, afterRead, writtenOf}
+use Rattle.rules.specs.Events.{isX, isW, isR, isP, isT, isK, isE, unknown, noRegister, tooLarge, held, noByte, noRoom, codeOf, effect, writeEffect}
 use Rattle.rules.specs.Events.{readEffect, outsideSet, pinsEffect, clocksEffect, acknowledgeEffect, ieiEffect, effectOf}
 use Rattle.rules.specs.Sound.{soundOf}
 use Rattle.basics.proofs.Tests.{so-both, allOf, each, not-so, never, by-test}
@@ -30,9 +31,10 @@ use Rattle.theorems.proofs.Moves.{moves-base}
 use Rattle.theorems.proofs.Steps.{step-sound}
 use Rattle.theorems.proofs.Writes.{master-base, outside-base, written-base}
 use Rattle.theorems.proofs.Stepless.{reset-sound, read-sound, acknowledge-sound, iei-sound, phase-base, phase-sound}
-use Rattle.theorems.proofs.Addresses.{later-kind}
+use Rattle.theorems.proofs.Addresses.{later-kind, full-kind}
 use Rattle.theorems.proofs.Codes.{acknowledges}
 use Rattle.theorems.proofs.Refusals.{code-0}
+use Rattle.theorems.proofs.Shapes.{written-shaped, outside-shaped}
 
 -- ---- the clock
 pub clock-parts : (s : Ran) → Sound (s .device) → Sound (clockOf s .device)
@@ -65,10 +67,14 @@ reached : (d : Device) (a : ℕ) (r : Bool) → reset d ≡ r → (reset d && no
 reached d a true p h = first (eqb-true a 0 (not-false (eqb a 0) (simp p at h)))
 reached d a false p h = free p
 
-write-base : (d : Device) (a b : ℕ) → Sound d → later d a b ≡ false → Reached d a → Base (writtenOf d (kindOf a) b)
+-- a data write with no room
+abbrev unstored : Device → ℕ → Bool
+unstored d a = writesByte d a && not (oreAt d (a - 0x0D))
+
+write-base : (d : Device) (a b : ℕ) → Shaped d → Sound d → later d a b ≡ false → unstored d a ≡ false → Reached d a → Base (writtenOf d (kindOf a) b)
 unfolding writtenOf kindOf kindIn
-write-base d a b h l (free z) = written-base d (h .base) z (kindOf a) b (sym (later-kind d a b) ∙ l)
-write-base d a b h l (first q) = subst (λ (n : ℕ). Base (writtenOf d (kindOf n) b)) (sym q) (master-base d b (h .base))
+write-base d a b k h l r (free z) = written-base d (h .base) z k (kindOf a) b (sym (later-kind d a b) ∙ l) (sym (full-kind d a) ∙ r)
+write-base d a b k h l r (first q) = subst (λ (n : ℕ). Base (writtenOf d (kindOf n) b)) (sym q) (master-base d b (h .base))
 
 read-parts : (d : Device) (a : ℕ) → Sound d → (So (readsByte d a) → So (irfAt d (a - 0x0D))) → Reached d a → Sound (afterRead d a)
 unfolding afterRead readsByte
@@ -76,14 +82,16 @@ read-parts d a h i (free z) = read-sound d z h a i
 read-parts d a h i (first q) = subst (λ (n : ℕ). Sound (afterRead d n)) (sym q) h
 
 -- (a), with its moves, and the step
-moved-sound : (d0 d1 : Device) → Base d1 → Sound (stepOf false d0 (movesOf d0 d1) .device)
-moved-sound d0 d1 h = step-sound false d0 (movesOf d0 d1) (moves-base d0 d1 h)
+moved-sound : (d0 d1 : Device) → Shaped d1 → Base d1 → Sound (stepOf false d0 (movesOf d0 d1) .device)
+moved-sound d0 d1 k h = step-sound false d0 (movesOf d0 d1) (moves-base d0 d1 k h)
 
-write-effect : (d : Device) (a b : ℕ) → Sound d → ((reset d && not (eqb a 0)) ≡ false → later d a b ≡ false) → Sound (writeEffect d a b .device)
+write-effect : (d : Device) (a b : ℕ) → Shaped d → Sound d → ((reset d && not (eqb a 0)) ≡ false → later d a b ≡ false)
+    → ((reset d && not (eqb a 0)) ≡ false → unstored d a ≡ false) → Sound (writeEffect d a b .device)
 unfolding writeEffect
-write-effect d a b h l =
+write-effect d a b k h l r =
     by-test (λ (r : Effect). Sound (r .device)) (reset d && not (eqb a 0)) (effect d 0) (effect (stepOf false d (movesOf d (writtenOf d (kindOf a) b)) .device) 0)
-    (λ _. h) (λ z. moved-sound d (writtenOf d (kindOf a) b) (write-base d a b h (l z) (reached d a (reset d) refl z)))
+    (λ _. h)
+    (λ z. moved-sound d (writtenOf d (kindOf a) b) (written-shaped d k (kindOf a) b) (write-base d a b k h (l z) (r z) (reached d a (reset d) refl z)))
 
 read-effect : (d : Device) (a : ℕ) → Sound d → (So (readsByte d a) → So (irfAt d (a - 0x0D))) → Sound (readEffect d a .device)
 unfolding readEffect
@@ -111,7 +119,8 @@ or-else false b h p = h
 
 module _ (d : Device) (e : Event) (z : codeOf d e ≡ 0) where
   abbrev rest : List Bool
-  rest = not (isW e && readOnly (e .a)) ∷ not (noByte d e) ∷ not (isW e && later d (e .a) (e .b)) ∷ not (isK e && eqb (requester d) 5) ∷ []
+  rest =
+      not (isW e && readOnly (e .a)) ∷ not (noByte d e) ∷ not (noRoom d e) ∷ not (isW e && later d (e .a) (e .b)) ∷ not (isK e && eqb (requester d) 5) ∷ []
 
   abbrev tests : List Bool
   tests = soundOf d ∷ not (unknown e) ∷ not (noRegister e) ∷ not (tooLarge e) ∷ (held d e || allOf rest) ∷ []
@@ -122,11 +131,18 @@ module _ (d : Device) (e : Event) (z : codeOf d e ≡ 0) where
   unless-held : held d e ≡ false → (i : ℕ) → So (getD rest i true)
   unless-held h = each rest (or-else (held d e) (allOf rest) (passed 4) h)
 
-  write-now : So (isW e) → (reset d && not (eqb (e .a) 0)) ≡ false → later d (e .a) (e .b) ≡ false
+  write-free : (reset d && not (eqb (e .a) 0)) ≡ false → (i : ℕ) → So (getD rest i true)
   unfolding held
-  write-now w h =
-      without (isW e) (later d (e .a) (e .b)) w
-      (not-so (isW e && later d (e .a) (e .b)) (unless-held (unheld (reset d) (isW e) (not (eqb (e .a) 0)) h) 2))
+  write-free h = unless-held (unheld (reset d) (isW e) (not (eqb (e .a) 0)) h)
+
+  write-now : So (isW e) → (reset d && not (eqb (e .a) 0)) ≡ false → later d (e .a) (e .b) ≡ false
+  write-now w h = without (isW e) (later d (e .a) (e .b)) w (not-so (isW e && later d (e .a) (e .b)) (write-free h 3))
+
+  write-stored : So (isW e) → (reset d && not (eqb (e .a) 0)) ≡ false → unstored d (e .a) ≡ false
+  unfolding noRoom
+  write-stored w h =
+      let full = not (oreAt d (e .a - 0x0D)) in
+      without (isW e) (unstored d (e .a)) w (sym (and-assoc (isW e) (writesByte d (e .a)) full) ∙ not-so (noRoom d e) (write-free h 2))
 
   read-now : So (isR e) → So (readsByte d (e .a)) → So (irfAt d (e .a - 0x0D))
   unfolding held noByte
@@ -150,22 +166,23 @@ module _ (d : Device) (e : Event) (z : codeOf d e ≡ 0) where
   requested : So (isK e) → eqb (requester d) 5 ≡ false
   requested k =
       without (isK e) (eqb (requester d) 5) k
-      (not-so (isK e && eqb (requester d) 5) (unless-held (acknowledges d e k .untested .free) 3))
+      (not-so (isK e && eqb (requester d) 5) (unless-held (acknowledges d e k .untested .free) 4))
 
   -- ---- the seven kinds
-  pub effect-parts : Sound d → Sound (effectOf d e .device)
+  pub effect-parts : Shaped d → Sound d → Sound (effectOf d e .device)
   unfolding effectOf pinsEffect clocksEffect acknowledgeEffect ieiEffect
-  effect-parts h =
+  effect-parts k h =
       by-test (λ (r : Effect). Sound (r .device)) (isX e) _ _ (λ _. reset-sound d (h .base .version) (h .base .four .outside))
       (λ _.
-      by-test (λ (r : Effect). Sound (r .device)) (isW e) _ _ (λ w. write-effect d (e .a) (e .b) h (write-now w))
+      by-test (λ (r : Effect). Sound (r .device)) (isW e) _ _ (λ w. write-effect d (e .a) (e .b) k h (write-now w) (write-stored w))
       (λ _.
       by-test (λ (r : Effect). Sound (r .device)) (isR e) _ _ (λ r. read-effect d (e .a) h (read-now r))
       (λ _.
       by-test (λ (r : Effect). Sound (r .device)) (isP e) _ _
-      (λ p. moved-sound d (outsideSet d (e .a) (e .b) (e .c)) (outside-base d (e .a) (e .b) (e .c) (pins-small p) (h .base)))
+      (λ p.
+      moved-sound d (outsideSet d (e .a) (e .b) (e .c)) (outside-shaped d k (e .a) (e .b) (e .c)) (outside-base d (e .a) (e .b) (e .c) (pins-small p) (h .base)))
       (λ _.
       by-test (λ (r : Effect). Sound (r .device)) (isT e) _ _ (λ _. ran-parts (e .a) d h)
       (λ _.
-      by-test (λ (r : Effect). Sound (r .device)) (isK e) _ _ (λ k. acknowledge-sound d (requested k) h)
+      by-test (λ (r : Effect). Sound (r .device)) (isK e) _ _ (λ a. acknowledge-sound d (requested a) h)
       (λ _. iei-sound d (eqb (e .a) 1) h))))))

@@ -1,11 +1,11 @@
--- Code 4 by kind: what `later`, which goes by address, says of each kind of register.
+-- Codes 4 and 10 by kind: what `later` and a data write with no room, which go by address, say of each kind of register.
 -- Assumes nothing.
-use Prim.Native.Nat.{ℕ, zero, suc, _<_}
-use mathlib.Core.Path.{_≡_, refl, ap₂, _∙_}
-use mathlib.Core.Bool.{Bool, true, false, _&&_, _||_, Bool·beq, So, cond, and-false}
+use Prim.Native.Nat.{ℕ, zero, suc, _-_, _<_}
+use mathlib.Core.Path.{_≡_, refl, sym, ap₂, _∙_}
+use mathlib.Core.Bool.{Bool, true, false, not, _&&_, _||_, Bool·beq, So, cond, and-assoc, and-false}
 use native.Mathlib.Omega.{arith}
-use lib.Dec.{ltb}
-use borrow.Author.Tests.{ltb-true, ltb-false, lt-leb, ne-eqb}
+use lib.Dec.{ltb, leb}
+use borrow.Author.Tests.{ltb-true, ltb-false, lt-ltb, leb-true, lt-leb, ne-eqb}
 use Rattle.rules.specs.declared.Device.{Device}
 use Rattle.rules.specs.declared.Kind.{Kind}
 use Rattle.rules.specs.declared.Kind.the-variants.{Master, Config, Vector, Polarity, Direction, Special, PortCommand, CounterCommand}
@@ -14,17 +14,20 @@ use Rattle.basics.specs.Signs.{_==_, within}
 use Rattle.rules.specs.With.{withPortMode}
 use Rattle.rules.specs.Record.{patternAt}
 use Rattle.rules.specs.Registers.{portKind, kindIn, kindOf, portOf, later, laterHandshake, laterConfig, laterCounterMode}
+use Rattle.rules.specs.Handshakes.{outputs, oreAt}
+use Rattle.rules.specs.Access.{writesByte}
 use Rattle.rules.specs.Sound.{laterPort}
-use Rattle.basics.proofs.Truth.{rows, all6, same}
-use Rattle.basics.proofs.Tests.{by-test}
+use Rattle.basics.proofs.Truth.{rows, all2, all6, same}
+use Rattle.basics.proofs.Tests.{left, right, never, by-test}
 use Rattle.basics.proofs.Laws.{below}
 
--- ---- the settings of which some are left to later requests
+-- ---- the settings of which some are left to later requests, and the data of a port
 pub data Setting : Type 0 where
   mode : ℕ → Setting
   handshake : ℕ → Setting
   config : Setting
   counter : Setting
+  byte : ℕ → Setting
   other : Setting
 
 abbrev settingOf : Kind → Setting
@@ -36,7 +39,7 @@ settingOf (Direction i) = other
 settingOf (Special i) = other
 settingOf (PortCommand i) = other
 settingOf (CounterCommand i) = other
-settingOf (Data i) = other
+settingOf (Data i) = byte i
 settingOf (Current i high) = other
 settingOf (Constant i high) = other
 settingOf (CounterMode i) = counter
@@ -54,6 +57,7 @@ bySetting f g c m (mode p) = f p
 bySetting f g c m (handshake p) = g p
 bySetting f g c m config = c
 bySetting f g c m counter = m
+bySetting f g c m (byte p) = false
 bySetting f g c m other = false
 
 abbrev byAddress : (ℕ → Bool) → (ℕ → Bool) → Bool → Bool → ℕ → Bool
@@ -70,6 +74,7 @@ small (mode p) = ltb p 2
 small (handshake p) = ltb p 2
 small config = true
 small counter = true
+small (byte p) = ltb p 3
 small other = true
 
 module _ (f : ℕ → Bool) where
@@ -90,6 +95,7 @@ picked-setting f g c m (mode p) h = picked-port f p h
 picked-setting f g c m (handshake p) h = picked-port g p h
 picked-setting f g c m config h = refl
 picked-setting f g c m counter h = refl
+picked-setting f g c m (byte p) h = refl
 picked-setting f g c m other h = refl
 
 -- ---- they agree at the 48 addresses, which antt computes, and past them
@@ -130,3 +136,66 @@ pub later-kind : (d : Device) (a b : ℕ) → later d a b ≡ laterKind d (kindO
 unfolding later
 later-kind d a b =
     agreed (λ p. laterPort (d .version) (withPortMode (patternAt d p) b)) (λ p. laterHandshake (patternAt d p .mode) b) (laterConfig b) (laterCounterMode b) a
+
+-- ---- the data of ports A and B, at 0DH and 0EH
+abbrev byData : (ℕ → Bool) → Setting → Bool
+byData f (mode p) = false
+byData f (handshake p) = false
+byData f config = false
+byData f counter = false
+byData f (byte p) = ltb p 2 && f p
+byData f other = false
+
+data-agree : (t : Bool) (x y : Bool) (a : ℕ) → ltb a 48 ≡ t → (within 0x0D 0x0E a && pick x y (a - 0x0D)) ≡ byData (pick x y) (settingOf (kindOf a))
+unfolding kindOf kindIn portKind
+data-agree true x y a h =
+    same _ _
+    (all2 (λ x y. Bool·beq (within 0x0D 0x0E a && pick x y (a - 0x0D)) (byData (pick x y) (settingOf (kindOf a))))
+    (below (λ a. rows (λ x. rows (λ y. Bool·beq (within 0x0D 0x0E a && pick x y (a - 0x0D)) (byData (pick x y) (settingOf (kindOf a)))))) 48 tt a (ltb-true a 48 h))
+    x y)
+data-agree false x y a h =
+    let g = ltb-false a 48 h in
+    simp (h, lt-leb a 0x0E (omega arith), and-false)
+
+-- a test after another that makes the port one of the two
+on-two : (f : ℕ → Bool) (v : Bool) (p : ℕ) → (So v → So (ltb p 2)) → (v && f p) ≡ (v && picked f p)
+on-two f true p h = sym (picked-port f p (h refl))
+on-two f false p h = refl
+
+of-data : (f : ℕ → Bool) (s : Setting) → byData (picked f) s ≡ byData f s
+of-data f (mode p) = refl
+of-data f (handshake p) = refl
+of-data f config = refl
+of-data f counter = refl
+of-data f (byte p) = sym (on-two f (ltb p 2) p (λ h. h))
+of-data f other = refl
+
+at-data : (f : ℕ → Bool) (a : ℕ) → (within 0x0D 0x0E a && f (a - 0x0D)) ≡ byData f (settingOf (kindOf a))
+at-data f a =
+    on-two f (within 0x0D 0x0E a) (a - 0x0D)
+    (λ w. lt-ltb (a - 0x0D) 2 (omega (arith, leb-true 0x0D a (left (leb 0x0D a) (leb a 0x0E) w), leb-true a 0x0E (right (leb 0x0D a) (leb a 0x0E) w))))
+    ∙ data-agree _ (f 0) (f 1) a refl
+    ∙ of-data f (settingOf (kindOf a))
+
+-- an output port with no room
+abbrev full : Device → ℕ → Bool
+full d p = outputs (patternAt d p) && not (oreAt d p)
+
+abbrev pub fullKind : Device → Kind → Bool
+fullKind d k = byData (full d) (settingOf k)
+
+pub full-kind : (d : Device) (a : ℕ) → (writesByte d a && not (oreAt d (a - 0x0D))) ≡ fullKind d (kindOf a)
+unfolding writesByte
+full-kind d a = and-assoc (within 0x0D 0x0E a) (outputs (patternAt d (a - 0x0D))) (not (oreAt d (a - 0x0D))) ∙ at-data (full d) a
+
+-- no address is refused for both
+one-setting : (f g h : ℕ → Bool) (c m : Bool) (s : Setting) → So (bySetting f g c m s) → byData h s ≡ false
+one-setting f g h c m (mode p) l = refl
+one-setting f g h c m (handshake p) l = refl
+one-setting f g h c m config l = refl
+one-setting f g h c m counter l = refl
+one-setting f g h c m (byte p) l = never refl l
+one-setting f g h c m other l = refl
+
+pub later-room : (d : Device) (a b : ℕ) → So (later d a b) → (writesByte d a && not (oreAt d (a - 0x0D))) ≡ false
+later-room d a b l = full-kind d a ∙ one-setting _ _ (full d) _ _ (settingOf (kindOf a)) (sym (later-kind d a b) ∙ l)

@@ -2,7 +2,7 @@
 -- Assumes nothing.
 use Prim.Native.Nat.{ℕ}
 use mathlib.Core.Path.{_≡_, refl, ap, ap₂, _∙_}
-use mathlib.Core.Bool.{Bool, not, _&&_, cond}
+use mathlib.Core.Bool.{Bool, not, _&&_, _||_, cond}
 use mathlib.Core.List.{List}
 use lib.Dec.{eqb}
 use lib.ListN.{getD}
@@ -14,7 +14,7 @@ use Rattle.rules.specs.Record.{portAt, patternAt, counterAt, sourceAt, idle, of
 use Rattle.rules.specs.With.{withCounters, withPattern, withPmf, withCatcher}
 use Rattle.rules.specs.Registers.{portEnabled}
 use Rattle.rules.specs.Counters.{outputOf}
-use Rattle.rules.specs.Handshakes.{isLine}
+use Rattle.rules.specs.Handshakes.{outputs, isLine, ackinAt, offersAt, shownAt}
 use Rattle.rules.specs.PortData.{caughtOf, seenOf, pinsOf, pathOf, directionAt, specialAt, effectiveAt, standing, lined, valueAt, pinsAt, pathAt, seenAt}
 use Rattle.rules.specs.Patterns.{matchOf}
 use Rattle.rules.specs.Interrupts.{fateOf, afterFate}
@@ -35,9 +35,9 @@ others d m = withCounters d m
 
 module _ (d : Device) (m : List Counter) (a : Alike (d .version) (d .counters) m) where
   value-alike : (p : ℕ) → valueAt (others d m) p ≡ valueAt d p
-  unfolding valueAt lined isLine
+  unfolding valueAt lined isLine shownAt offersAt ackinAt
   value-alike p =
-      ap₂ (λ (x y : ℕ). cond (eqb p 0) (portAt d p .output) (cond (eqb p 1) x y))
+      ap₂ (λ (x y : ℕ). cond (eqb p 0 || outputs (patternAt d p)) (portAt d p .output) (cond (eqb p 1) x y))
       (standing-alike (d .version) (getD m 0 idle) (counterAt d 0) 4 _ (a .mode 0) (a .output 0)
       ∙ ap (standing (d .version) (counterAt d 0) 4) (standing-alike (d .version) (getD m 1 idle) (counterAt d 1) 0 (portAt d p .output) (a .mode 1) (a .output 1)))
       (ap (lined d) (standing-alike (d .version) (getD m 2 idle) (counterAt d 2) 0 (portAt d p .output) (a .mode 2) (a .output 2)))

@@ -109,7 +109,7 @@ sound-parts d h =
             modes =
                 each2 (λ p. laterPort (d .version) (patternAt d p) ≡ false) (not-so (laterPort (d .version) (patternAt d 0)) (mode 1)) (not-so (laterPort (d .version) (patternAt d 1)) (mode 2));
             transfers =
-                each2 (λ p. TransferSound (portEnabled d p) (patternAt d p) (sourceAt d (ofPort p)) (transferAt d p))
+                each2 (λ p. TransferSound (portEnabled d p) (portAt d p .output) (patternAt d p) (sourceAt d (ofPort p)) (transferAt d p))
                 (transfer-sound (transfer 0)) (transfer-sound (transfer 1));
             counters =
                 each3 (λ i. CounterSound (d .version) (counterEnabled d i) (counterAt d i))

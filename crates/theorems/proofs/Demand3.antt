@@ -20,7 +20,7 @@ use Rattle.rules.specs.Registers.{reset}
 use Rattle.rules.specs.Report.{noReport, sums, reportsAdded}
 use Rattle.rules.specs.Step.{ranOf}
 use Rattle.rules.specs.Sound.{soundOf}
-use Rattle.rules.specs.Events.{isT, unknown, noRegister, tooLarge, held, noByte, codeOf, effect, clocksEffect, effectOf, answerOf, unsoundAnswer, outcomeOf, eventOf}
+use Rattle.rules.specs.Events.{isT, unknown, noRegister, tooLarge, held, noByte, noRoom, codeOf, effect, clocksEffect, effectOf, answerOf, unsoundAnswer, outcomeOf, eventOf}
 use Rattle.theorems.specs.Traces.{answersOf, recordAfter, tracedOf, cutBy}
 use Rattle.theorems.specs.Ticks.{tick, onlyT, onlyT1, allClocks, onTop, answersAdded, answersAsOne, asOne}
 use Rattle.theorems.specs.Reports.{Fits}
@@ -40,7 +40,7 @@ abbrev refusal : Device → Outcome
 refusal d = record { device = d; answer = unsoundAnswer }
 
 tick-ran : (d : Device) (n : ℕ) → soundOf d ≡ true → eventOf d (tick n) ≡ ranOutcome (ranOf n d)
-unfolding eventOf codeOf unknown noRegister tooLarge held noByte effectOf clocksEffect
+unfolding eventOf codeOf unknown noRegister tooLarge held noByte noRoom effectOf clocksEffect
 tick-ran d n s = simp (s, and-false)
 
 tick-refused : (d : Device) (n : ℕ) → soundOf d ≡ false → eventOf d (tick n) ≡ refusal d

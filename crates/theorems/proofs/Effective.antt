@@ -1,21 +1,22 @@
--- Paper 02, W-203: direction and special in effect go by the modes of A and B and the port's own registers, the ready lines also by
--- the configuration and by what the ports hold. What a port puts out does not reach its catchers.
+-- Paper 02, W-203 and W-206: direction and special in effect go by the modes of A and B and the port's own registers, the lines that A and
+-- B show also by the configuration, by what the ports hold and by ACKIN. What a port puts out does not reach its catchers.
 -- Assumes nothing.
 use Prim.Native.Nat.{ℕ, _-_, _/_, _<_}
 use mathlib.Core.Path.{_≡_, sym, ap, _∙_}
-use mathlib.Core.Bool.{Bool, _&&_, Bool·beq, So}
+use mathlib.Core.Bool.{Bool, true, _&&_, Bool·beq, So, and-false}
 use lib.Dec.{lit<}
 use Rattle.rules.specs.declared.Device.{Device}
 use Rattle.rules.specs.declared.Port.{Port}
-use Rattle.basics.specs.Byte.{bit, every}
+use Rattle.basics.specs.Byte.{bit, differs, every}
 use Rattle.rules.specs.Record.{portAt, patternAt}
 use Rattle.rules.specs.With.{withDirection, withSpecial}
 use Rattle.rules.specs.Registers.{portOn, portEnabled}
-use Rattle.rules.specs.Handshakes.{depth, readyOf, readyAt, isLine}
+use Rattle.rules.specs.Handshakes.{handshakes, depth, readyOf, isLine, ackinBit, ackinAt, availableOf, offersAt, shownAt}
 use Rattle.rules.specs.PortData.{pinBit, pathBit, catches, catchesAt, pinsOf, pathOf, directionAt, specialAt, effectiveAt, valueAt, pinsAt, pathAt}
 use Rattle.rules.specs.Sound.{only, catcherOnly, catcherSet, soundPort, soundPortAt}
 use Rattle.basics.proofs.Truth.{all7, same}
 use Rattle.basics.proofs.Laws.{bit-byte}
+use Rattle.basics.proofs.Places.{each2}
 
 -- ---- records with the same modes
 module _ (d e : Device) (modes : (p : ℕ) → patternAt e p .mode ≡ patternAt d p .mode) where
@@ -31,9 +32,10 @@ module _ (d e : Device) (modes : (p : ℕ) → patternAt e p .mode ≡ patternAt
   unfolding specialAt
   special-kept p h = simp (line-kept, modes p, h)
 
-  pub ready-kept : e .config ≡ d .config → e .transfers ≡ d .transfers → (p : ℕ) → readyAt e p ≡ readyAt d p
-  unfolding readyOf depth
-  ready-kept c t p = simp (modes p, c, t)
+  pub shown-kept : e .config ≡ d .config → e .transfers ≡ d .transfers → ((p : ℕ) → patternAt e p .handshake ≡ patternAt d p .handshake)
+      → ((p : ℕ) → ackinAt e p ≡ ackinAt d p) → (p : ℕ) → shownAt e p ≡ shownAt d p
+  unfolding shownAt offersAt readyOf availableOf depth
+  shown-kept c t s a p = simp (modes p, c, t, s p, a p)
 
 -- ---- the catchers
 -- path bit k of a port that puts out the value v
@@ -80,3 +82,15 @@ port-kept d e c m p h s =
     ∙ ap (λ (n : ℕ). soundPort (portOn n p) (effectiveAt d p) (pathOf (effectiveAt d p) (pinsOf (portOn n p) (effectiveAt d p) (valueAt e p)) (valueAt e p))) c
     ∙ value-unseen (portEnabled d p) (effectiveAt d p) (valueAt e p) (valueAt d p)
     ∙ s
+
+-- ---- ACKIN is an input, so its path value is the outside level XOR polarity, whatever Port C's registers hold
+input-path : (d : Device) (k : ℕ) → k < 8 → bit (directionAt d 2) k ≡ true
+    → bit (pathAt d 2) k ≡ differs (bit (portAt d 2 .outside) k) (bit (portAt d 2 .polarity) k)
+unfolding pathAt pinsAt pathBit pinBit
+input-path d k l i = path-bit (portEnabled d 2) (effectiveAt d 2) (valueAt d 2) k l ∙ (simp (i, and-false))
+
+pub ackin-path : (d : Device) (p : ℕ) → p < 2 → handshakes (patternAt d p) ≡ true → ackinAt d p ≡ bit (pathAt d 2) (ackinBit p)
+unfolding ackinAt directionAt isLine
+ackin-path d p l h =
+    each2 (λ p. handshakes (patternAt d p) ≡ true → ackinAt d p ≡ bit (pathAt d 2) (ackinBit p))
+    (λ h. sym (input-path d 2 (lit< tt) (bit-byte _ 2 (lit< tt) ∙ (simp h)))) (λ h. sym (input-path d 0 (lit< tt) (bit-byte _ 0 (lit< tt) ∙ (simp h)))) p l h

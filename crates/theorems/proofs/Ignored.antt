@@ -8,33 +8,33 @@ use borrow.Author.Tests.{eqb-true, lt-ltb, ne-eqb}
 use Rattle.rules.specs.declared.Device.{Device}
 use Rattle.rules.specs.declared.Event.{Event}
 use Rattle.rules.specs.Sound.{soundOf}
-use Rattle.rules.specs.Events.{isT, unknown, noRegister, tooLarge, held, noByte, codeOf, effectOf, eventOf}
+use Rattle.rules.specs.Events.{isT, unknown, noRegister, tooLarge, held, noByte, noRoom, codeOf, effectOf, eventOf}
 use Rattle.theorems.specs.Used.{of, usedOf}
 use Rattle.theorems.specs.Ticks.{tick}
 
 module _ (d : Device) (a b c : ℕ) where
   pub ignored-x : eventOf d (of 0 a b c) ≡ eventOf d (of 0 0 0 0)
-  unfolding eventOf codeOf unknown noRegister tooLarge held noByte effectOf
+  unfolding eventOf codeOf unknown noRegister tooLarge held noByte noRoom effectOf
   ignored-x = simp and-false
 
   pub ignored-w : eventOf d (of 1 a b c) ≡ eventOf d (of 1 a b 0)
-  unfolding eventOf codeOf unknown noRegister tooLarge held noByte effectOf
+  unfolding eventOf codeOf unknown noRegister tooLarge held noByte noRoom effectOf
   ignored-w = refl
 
   pub ignored-r : eventOf d (of 2 a b c) ≡ eventOf d (of 2 a 0 0)
-  unfolding eventOf codeOf unknown noRegister tooLarge held noByte effectOf
+  unfolding eventOf codeOf unknown noRegister tooLarge held noByte noRoom effectOf
   ignored-r = simp and-false
 
   pub ignored-t : eventOf d (of 4 a b c) ≡ eventOf d (of 4 a 0 0)
-  unfolding eventOf codeOf unknown noRegister tooLarge held noByte effectOf
+  unfolding eventOf codeOf unknown noRegister tooLarge held noByte noRoom effectOf
   ignored-t = simp and-false
 
   pub ignored-k : eventOf d (of 5 a b c) ≡ eventOf d (of 5 0 0 0)
-  unfolding eventOf codeOf unknown noRegister tooLarge held noByte effectOf
+  unfolding eventOf codeOf unknown noRegister tooLarge held noByte noRoom effectOf
   ignored-k = simp and-false
 
   pub ignored-e : eventOf d (of 6 a b c) ≡ eventOf d (of 6 a 0 0)
-  unfolding eventOf codeOf unknown noRegister tooLarge held noByte effectOf
+  unfolding eventOf codeOf unknown noRegister tooLarge held noByte noRoom effectOf
   ignored-e = simp and-false
 
   -- a kind above 6 uses none

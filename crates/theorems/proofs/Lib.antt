@@ -26,6 +26,8 @@ pub mod Accepted
 pub mod Soundness
 pub mod Shapes
 pub mod Traces
+-- What a port with handshake shows.
+pub mod Shown
 -- Clocks: reports, no byte that moves (and what R leaves), and demand 3.
 pub mod ReportLaws
 pub mod Frame

@@ -1,11 +1,12 @@
 -- A sound record, clause by clause: what `soundOf` tests, as facts about each source, counter, port, pattern and transfer.
 -- Assumes nothing.
-use Prim.Native.Nat.{ℕ, _<_, _≤_}
-use mathlib.Core.Path.{_≡_, refl, subst}
+use Prim.Native.Nat.{ℕ, _/_, _<_, _≤_}
+use mathlib.Core.Path.{_≡_, refl, ap, subst}
 use mathlib.Core.Bool.{Bool, true, false, not, _&&_, _||_, So, false≢true}
 use mathlib.Core.List.{[], _∷_}
+use native.Mathlib.Omega.{arith}
 use lib.Dec.{eqb, ltb}
-use borrow.Author.Tests.{ltb-true, lt-ltb, eqb-true, eq-eqb, leb-true, le-leb}
+use borrow.Author.Tests.{ltb-true, lt-ltb, eqb-true, eqb-false, eq-eqb, ne-eqb, leb-true, le-leb}
 use Rattle.rules.specs.declared.Source.{Source}
 use Rattle.rules.specs.declared.Counter.{Counter}
 use Rattle.rules.specs.declared.Port.{Port}
@@ -14,10 +15,10 @@ use Rattle.rules.specs.declared.Transfer.{Transfer}
 use Rattle.rules.specs.declared.Device.{Device}
 use Rattle.rules.specs.Record.{vectorAt, portAt, patternAt, transferAt, counterAt, sourceAt, quiet, idle, bare, blank, vacant, ofPort}
 use Rattle.rules.specs.Registers.{reset, portEnabled, counterEnabled, laterConfig, laterCounterMode}
-use Rattle.rules.specs.Handshakes.{handshakes, itb, strobed, depth}
+use Rattle.rules.specs.Handshakes.{inputs, outputs, handshakes, itb, strobed, depth}
 use Rattle.rules.specs.Sound.{only, fourBits, laterPort, errOnly, hiddenOnly, soundSource, cipOnly, halfOnly, frozenOnly, pulseOnly, soundCounter, pmfOnly, soundPortAt}
-use Rattle.rules.specs.Sound.{sameTransfer, heldOnly, roomOnly, bytesOnly, unfinishedOnly, pairOnly, soundTransfer}
-use Rattle.basics.proofs.Tests.{so-both, left, right, each}
+use Rattle.rules.specs.Sound.{sameTransfer, heldOnly, roomOnly, bytesOnly, unfinishedOnly, pairOnly, frontOnly, soundTransfer}
+use Rattle.basics.proofs.Tests.{so-both, left, right, each, so-not, not-so, never}
 use Rattle.theorems.proofs.Equal.{same-transfer, transfer-same}
 
 -- ---- if the first, the second
@@ -28,6 +29,10 @@ if-then false b h p = absurd (false≢true p)
 pub only-if : (a b : Bool) → (So a → So b) → So (only a b)
 only-if true b f = f refl
 only-if false b f = refl
+
+-- ---- no port is of two types
+pub no-input : (q : Pattern) → So (outputs q) → inputs q ≡ false
+no-input q o = ne-eqb (q .mode / 64) 1 (λ e. omega (arith, e, eqb-true (q .mode / 64) 2 o))
 
 -- ---- the version, one source, one counter, port C, what one port holds
 abbrev pub Version : ℕ → Type 0
@@ -52,14 +57,15 @@ pub record FourBits (q : Port) : Type 0 where
   pub outside : q .outside < 16
   pub catcher : q .catcher < 16
 
--- of a port with pattern q, whose source is s
-pub record TransferSound (enabled : Bool) (q : Pattern) (s : Source) (t : Transfer) : Type 0 where
+-- of a port with that output register and pattern q, whose source is s
+pub record TransferSound (enabled : Bool) (output : ℕ) (q : Pattern) (s : Source) (t : Transfer) : Type 0 where
   pub held : So (not (handshakes q && enabled)) → t ≡ vacant
   pub room : t .bytes ≤ depth q
   pub front : t .bytes ≡ 0 → t .front ≡ 0
   pub behind : t .bytes < 2 → t .behind ≡ 0
   pub unfinished : So (t .unfinished) → So (not (strobed q))
   pub pair : So (t .pair) → So (s .ip && itb q)
+  pub put : So (outputs q) → (t .bytes ≡ 0 → ⊥) → output ≡ t .front
 
 pub source-sound : {s : Source} → So (soundSource s) → SourceSound s
 unfolding soundSource errOnly hiddenOnly
@@ -114,34 +120,44 @@ bits-four {q} h =
     (lt-ltb _ 16 (h .outside)))
     (lt-ltb _ 16 (h .catcher))
 
-pub transfer-sound : {e : Bool} {q : Pattern} {s : Source} {t : Transfer} → So (soundTransfer e q s t) → TransferSound e q s t
-unfolding soundTransfer heldOnly roomOnly bytesOnly unfinishedOnly pairOnly
-transfer-sound {e} {q} {s} {t} h =
-    let part = each (heldOnly e q t ∷ roomOnly q t ∷ bytesOnly t ∷ unfinishedOnly q t ∷ pairOnly q s t ∷ []) h in
-    let bytes = each (only (eqb (t .bytes) 0) (eqb (t .front) 0) ∷ only (ltb (t .bytes) 2) (eqb (t .behind) 0) ∷ []) (part 2) in
-    record {
-      held = λ n. same-transfer t vacant (if-then (not (handshakes q && e)) (sameTransfer t vacant) (part 0) n);
-      room = leb-true (t .bytes) (depth q) (part 1);
-      front = λ z. eqb-true (t .front) 0 (if-then (eqb (t .bytes) 0) (eqb (t .front) 0) (bytes 0) (eq-eqb (t .bytes) 0 z));
-      behind = λ l. eqb-true (t .behind) 0 (if-then (ltb (t .bytes) 2) (eqb (t .behind) 0) (bytes 1) (lt-ltb (t .bytes) 2 l));
-      unfinished = if-then (t .unfinished) (not (strobed q)) (part 3);
-      pair = if-then (t .pair) (s .ip && itb q) (part 4);
-    }
+-- an output port that holds a byte
+abbrev putting : Pattern → Transfer → Bool
+putting q t = outputs q && not (eqb (t .bytes) 0)
 
-pub sound-transfer : {e : Bool} {q : Pattern} {s : Source} {t : Transfer} → TransferSound e q s t → So (soundTransfer e q s t)
-unfolding soundTransfer heldOnly roomOnly bytesOnly unfinishedOnly pairOnly
-sound-transfer {e} {q} {s} {t} h =
-    so-both
-    (so-both
-    (so-both
-    (so-both
-    (only-if (not (handshakes q && e)) (sameTransfer t vacant) (λ n. subst (λ (u : Transfer). So (sameTransfer t u)) (h .held n) (transfer-same t)))
-    (le-leb (t .bytes) (depth q) (h .room)))
-    (so-both
-    (only-if (eqb (t .bytes) 0) (eqb (t .front) 0) (λ z. eq-eqb (t .front) 0 (h .front (eqb-true (t .bytes) 0 z))))
-    (only-if (ltb (t .bytes) 2) (eqb (t .behind) 0) (λ l. eq-eqb (t .behind) 0 (h .behind (ltb-true (t .bytes) 2 l))))))
-    (only-if (t .unfinished) (not (strobed q)) (h .unfinished)))
-    (only-if (t .pair) (s .ip && itb q) (h .pair))
+module _ {e : Bool} {o : ℕ} {q : Pattern} {s : Source} {t : Transfer} where
+  pub transfer-sound : So (soundTransfer e o q s t) → TransferSound e o q s t
+  unfolding soundTransfer heldOnly roomOnly bytesOnly unfinishedOnly pairOnly frontOnly
+  transfer-sound h =
+      let part = each (heldOnly e q t ∷ roomOnly q t ∷ bytesOnly t ∷ unfinishedOnly q t ∷ pairOnly q s t ∷ frontOnly o q t ∷ []) h in
+      let bytes = each (only (eqb (t .bytes) 0) (eqb (t .front) 0) ∷ only (ltb (t .bytes) 2) (eqb (t .behind) 0) ∷ []) (part 2) in
+      record {
+        held = λ n. same-transfer t vacant (if-then (not (handshakes q && e)) (sameTransfer t vacant) (part 0) n);
+        room = leb-true (t .bytes) (depth q) (part 1);
+        front = λ z. eqb-true (t .front) 0 (if-then (eqb (t .bytes) 0) (eqb (t .front) 0) (bytes 0) (eq-eqb (t .bytes) 0 z));
+        behind = λ l. eqb-true (t .behind) 0 (if-then (ltb (t .bytes) 2) (eqb (t .behind) 0) (bytes 1) (lt-ltb (t .bytes) 2 l));
+        unfinished = if-then (t .unfinished) (not (strobed q)) (part 3);
+        pair = if-then (t .pair) (s .ip && itb q) (part 4);
+        put = λ w n. eqb-true o (t .front) (if-then (putting q t) (eqb o (t .front)) (part 5) (so-both w (so-not (ne-eqb (t .bytes) 0 n))));
+      }
+
+  pub sound-transfer : TransferSound e o q s t → So (soundTransfer e o q s t)
+  unfolding soundTransfer heldOnly roomOnly bytesOnly unfinishedOnly pairOnly frontOnly
+  sound-transfer h =
+      let none = eqb (t .bytes) 0 in
+      so-both
+      (so-both
+      (so-both
+      (so-both
+      (so-both
+      (only-if (not (handshakes q && e)) (sameTransfer t vacant) (λ n. subst (λ (u : Transfer). So (sameTransfer t u)) (h .held n) (transfer-same t)))
+      (le-leb (t .bytes) (depth q) (h .room)))
+      (so-both
+      (only-if none (eqb (t .front) 0) (λ z. eq-eqb (t .front) 0 (h .front (eqb-true (t .bytes) 0 z))))
+      (only-if (ltb (t .bytes) 2) (eqb (t .behind) 0) (λ l. eq-eqb (t .behind) 0 (h .behind (ltb-true (t .bytes) 2 l))))))
+      (only-if (t .unfinished) (not (strobed q)) (h .unfinished)))
+      (only-if (t .pair) (s .ip && itb q) (h .pair)))
+      (only-if (putting q t) (eqb o (t .front))
+      (λ w. eq-eqb o (t .front) (h .put (left (outputs q) (not none) w) (eqb-false (t .bytes) 0 (not-so none (right (outputs q) (not none) w))))))
 
 -- ---- the record as reset leaves it, but for the version, the outside pins and IEI
 pub record Cleared (d : Device) : Type 0 where
@@ -160,7 +176,7 @@ pub record Base (d : Device) : Type 0 where
   pub version : Version (d .version)
   pub config : laterConfig (d .config) ≡ false
   pub modes : (p : ℕ) → p < 2 → laterPort (d .version) (patternAt d p) ≡ false
-  pub transfers : (p : ℕ) → p < 2 → TransferSound (portEnabled d p) (patternAt d p) (sourceAt d (ofPort p)) (transferAt d p)
+  pub transfers : (p : ℕ) → p < 2 → TransferSound (portEnabled d p) (portAt d p .output) (patternAt d p) (sourceAt d (ofPort p)) (transferAt d p)
   pub counters : (i : ℕ) → i < 3 → CounterSound (d .version) (counterEnabled d i) (counterAt d i)
   pub sources : (k : ℕ) → k < 5 → SourceSound (sourceAt d k)
   pub four : FourBits (portAt d 2)
@@ -171,3 +187,11 @@ pub record Sound (d : Device) : Type 0 where
   pub base : Base d
   pub ports : (p : ℕ) → p < 3 → So (soundPortAt d p)
   pub patterns : (p : ℕ) → p < 2 → So (pmfOnly (portEnabled d p) (patternAt d p))
+
+-- ---- under RESET no port has a handshake
+awake-by : (d : Device) (p : ℕ) → p < 2 → Base d → So (handshakes (patternAt d p)) → (r : Bool) → reset d ≡ r → reset d ≡ false
+awake-by d p l h w true z = never (ap (λ (q : Pattern). handshakes q) (h .held z .patterns p l)) w
+awake-by d p l h w false z = z
+
+pub handshake-awake : (d : Device) (p : ℕ) → p < 2 → Base d → So (handshakes (patternAt d p)) → reset d ≡ false
+handshake-awake d p l h w = awake-by d p l h w _ refl

@@ -1,8 +1,8 @@
 -- The answer's code, what a refusal leaves, and when each code is given: paper 01, "Events and their answers".
 -- Assumes nothing.
-use Prim.Native.Nat.{ℕ}
+use Prim.Native.Nat.{ℕ, _-_}
 use mathlib.Core.Path.{_≡_, refl, sym, _∙_}
-use mathlib.Core.Bool.{Bool, true, false, not, _&&_, _||_, cond, So}
+use mathlib.Core.Bool.{Bool, true, false, not, _&&_, _||_, cond, So, or-true}
 use mathlib.Core.List.{[], _∷_}
 use mathlib.Core.Logic.{_↔_}
 use native.Mathlib.Omega.{arith}
@@ -15,10 +15,12 @@ use Rattle.rules.specs.Report.{noReport}
 use Rattle.rules.specs.Registers.{readOnly, later}
 use Rattle.rules.specs.Interrupts.{requester}
 use Rattle.rules.specs.Sound.{soundOf}
-use Rattle.rules.specs.Events.{isW, isK, unknown, noRegister, tooLarge, held, noByte, codeOf, effect, effectOf, answerOf, unsoundAnswer, outcomeOf, eventOf}
+use Rattle.rules.specs.Events.{isW, isK, unknown, noRegister, tooLarge, held, noByte, noRoom, codeOf, effect, effectOf, answerOf, unsoundAnswer, outcomeOf, eventOf}
 use Rattle.basics.proofs.Tests.{so-both, each, so-not, by-test}
+use Rattle.theorems.proofs.Parts.{handshake-awake}
+use Rattle.theorems.proofs.Clauses.{sound-parts}
 use Rattle.theorems.proofs.Codes.{refusedReadOnly, refusedLater, refusedIdle, test-9, test-1, test-2, test-5, test-3, test-4}
-use Rattle.theorems.proofs.Codes.{test-11, test-6, test-0, write-known, no-register-known, too-large-known, write-byte, reads, acknowledges}
+use Rattle.theorems.proofs.Codes.{test-11, test-10, test-6, test-0, write-known, no-register-known, too-large-known, write-byte, later-stored, Unstored, writes, reads, acknowledges}
 
 -- not both, and the one: not the other
 alone : (a b : Bool) → So a → So (not (a && b)) → So (not b)
@@ -29,6 +31,11 @@ alone false false p h = refl
 none : (a b : Bool) → So (not b) → So (not (a && b))
 none true b h = h
 none false b h = refl
+
+-- a sound record under RESET has no output port, so no such write is held
+unheld : (d : Device) (e : Event) → So (soundOf d) → Unstored d e → held d e ≡ false
+unfolding held
+unheld d e s w = simp (handshake-awake d (e .a - 0x0D) (w .place) (sound-parts d s .base) (simp (w .output, or-true)))
 
 module _ (d : Device) (e : Event) where
   -- the three ways of an event: an unsound record, an accepted event, a refusal
@@ -72,7 +79,7 @@ module _ (d : Device) (e : Event) where
   refused-answer ne nine =
       ways (λ o. o .answer ≡ answerOf (codeOf d e) (effect d 0)) (λ n. absurd (nine (code-is ∙ n))) (λ z. absurd (ne (code-is ∙ z))) (λ _. refl)
 
-  -- ---- each code is given exactly when: "Order: 9, 1, 2, 5, reset hold, 3, 4, 6."; 11 "after 3"
+  -- ---- each code is given exactly when: "Order: 9, 1, 2, 5, reset hold, 3, 4, 6."; 11 "after 3", 10 "after 11"
   exactly : (n : ℕ) (x : Bool) → eqb (codeOf d e) n ≡ x → (codeOf d e ≡ n) ↔ So x
   exactly n x p = (λ q. sym p ∙ eq-eqb (codeOf d e) n q, λ s. eqb-true (codeOf d e) n (p ∙ s))
 
@@ -142,6 +149,35 @@ module _ (d : Device) (e : Event) where
             (part 1)),
       )
 
+  -- W-206: "10 for a data write with ORE 0"
+  pub code-10 : (codeOf d e ≡ 10) ↔ So (soundOf d && not (tooLarge e) && noRoom d e)
+  code-10 =
+      let test = exactly 10 _ (test-10 d e) in (
+        λ q.
+            let part =
+            each
+            (soundOf d ∷ not (unknown e) ∷ not (noRegister e) ∷ not (tooLarge e) ∷ not (held d e) ∷ not (refusedReadOnly e) ∷ not (noByte d e) ∷ noRoom d e ∷ [])
+            (test .0 q) in
+            so-both (so-both (part 0) (part 3)) (part 7),
+        λ s.
+            let part = each (soundOf d ∷ not (tooLarge e) ∷ noRoom d e ∷ []) s in
+            let w = writes d e (part 2) in
+            test .1
+            (so-both
+            (so-both
+            (so-both
+            (so-both (so-both (so-both (so-both (part 0) (so-not (write-known e (w .write)))) (so-not (w .register))) (part 1)) (so-not (unheld d e (part 0) w)))
+            (so-not (w .readable)))
+            (so-not (write-byte d e (w .write))))
+            (part 2)),
+      )
+
+  -- "nothing stored"
+  pub full-keeps : So (soundOf d && not (tooLarge e) && noRoom d e) → eventOf d e .device ≡ d
+  full-keeps s =
+      let n = code-10 .1 s in
+      refused-keeps (λ z. absurd (omega (arith, sym code-is ∙ z, n)))
+
   -- "W of a setting left to later requests"
   pub code-4 : (codeOf d e ≡ 4) ↔ So (reaches && not (readOnly (e .a)) && later d (e .a) (e .b))
   code-4 =
@@ -151,17 +187,20 @@ module _ (d : Device) (e : Event) where
         λ q.
             let part =
             each
-            (soundOf d ∷ not (unknown e) ∷ not (noRegister e) ∷ not (tooLarge e) ∷ not (held d e) ∷ not (refusedReadOnly e) ∷ not (noByte d e) ∷ refusedLater d e ∷ [])
+            (soundOf d ∷ not (unknown e) ∷ not (noRegister e) ∷ not (tooLarge e) ∷ not (held d e)
+            ∷ not (refusedReadOnly e) ∷ not (noByte d e) ∷ not (noRoom d e) ∷ refusedLater d e ∷ [])
             (test .0 q) in
-            let write = each (isW e ∷ l ∷ []) (part 7) in
+            let write = each (isW e ∷ l ∷ []) (part 8) in
             so-both (so-both (so-both (so-both (so-both (so-both (part 0) (write 0)) (part 2)) (part 3)) (part 4)) (alone (isW e) r (write 0) (part 5))) (write 1),
         λ s.
             let part = each (soundOf d ∷ isW e ∷ not (noRegister e) ∷ not (tooLarge e) ∷ not (held d e) ∷ not r ∷ l ∷ []) s in
             test .1
             (so-both
             (so-both
+            (so-both
             (so-both (so-both (so-both (so-both (so-both (part 0) (so-not (write-known e (part 1)))) (part 2)) (part 3)) (part 4)) (none (isW e) r (part 5)))
             (so-not (write-byte d e (part 1))))
+            (so-not (later-stored d e (part 6))))
             (so-both (part 1) (part 6))),
       )
 
@@ -173,9 +212,9 @@ module _ (d : Device) (e : Event) where
             let part =
             each
             (soundOf d ∷ not (unknown e) ∷ not (noRegister e) ∷ not (tooLarge e) ∷ not (held d e)
-            ∷ not (refusedReadOnly e) ∷ not (noByte d e) ∷ not (refusedLater d e) ∷ refusedIdle d e ∷ [])
+            ∷ not (refusedReadOnly e) ∷ not (noByte d e) ∷ not (noRoom d e) ∷ not (refusedLater d e) ∷ refusedIdle d e ∷ [])
             (test .0 q) in
-            let idle = each (isK e ∷ eqb (requester d) 5 ∷ []) (part 8) in
+            let idle = each (isK e ∷ eqb (requester d) 5 ∷ []) (part 9) in
             so-both (so-both (part 0) (idle 0)) (idle 1),
         λ s.
             let part = each (soundOf d ∷ isK e ∷ eqb (requester d) 5 ∷ []) s in
@@ -186,15 +225,17 @@ module _ (d : Device) (e : Event) where
             (so-both
             (so-both
             (so-both
+            (so-both
             (so-both (so-both (so-both (so-both (part 0) (so-not (u .known))) (so-not (u .register))) (so-not (u .small))) (so-not (u .free)))
             (so-not (u .readable)))
             (so-not (k .byte)))
+            (so-not (k .room)))
             (so-not (k .now)))
             (so-both (part 1) (part 2))),
       )
 
-  -- "accepted": past 9, 1, 2 and 5, and then held by RESET or past 3, 11, 4 and 6
+  -- "accepted": past 9, 1, 2 and 5, and then held by RESET or past 3, 11, 10, 4 and 6
   pub code-0 : (codeOf d e ≡ 0)
       ↔ So (soundOf d && not (unknown e) && not (noRegister e) && not (tooLarge e)
-      && (held d e || (not (refusedReadOnly e) && not (noByte d e) && not (refusedLater d e) && not (refusedIdle d e))))
+      && (held d e || (not (refusedReadOnly e) && not (noByte d e) && not (noRoom d e) && not (refusedLater d e) && not (refusedIdle d e))))
   code-0 = exactly 0 _ (test-0 d e)

@@ -96,6 +96,20 @@ unfolding ranOf iterate
 ran-held zero d r = refl
 ran-held (suc n) d r = ap clockOf (ran-held n d r) ∙ clock-held (start d) r
 
+-- ---- what the phase does not touch and a timer clock's step keeps, a run keeps
+module _ {A : Type 0} (f : Device → A) (phase : (d : Device) (v : Bool) → f (withPhase d v) ≡ f d)
+    (step : (d : Device) → f (stepOf true d (withPhase d false) .device) ≡ f d) where
+  clock-keeps : (v p : Bool) (s : Ran) → reset (s .device) ≡ v → s .device .phase ≡ p → f (clockOf s .device) ≡ f (s .device)
+  unfolding reported
+  clock-keeps true p s e q = ap (λ (t : Ran). f (t .device)) (clock-held s e)
+  clock-keeps false false s e q = ap (λ (t : Ran). f (t .device)) (clock-first s e q) ∙ phase (s .device) true
+  clock-keeps false true s e q = ap (λ (t : Ran). f (t .device)) (clock-timer s e q) ∙ step (s .device)
+
+  pub ran-keeps : (n : ℕ) (d : Device) → f (ranOf n d .device) ≡ f d
+  unfolding ranOf iterate
+  ran-keeps zero d = refl
+  ran-keeps (suc n) d = clock-keeps _ _ (ranOf n d) refl refl ∙ ran-keeps n d
+
 -- ---- a timer clock adds at most one of each counter to a row
 pub added-at : (w : Row) (r : Report) (t : Stepped) (i : ℕ) → i < 3
     → getD (w .of (reported r t .report)) i 0 ≡ getD (w .of r) i 0 + num (getD (w .marks t) i false)

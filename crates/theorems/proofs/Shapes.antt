@@ -22,15 +22,16 @@ use Rattle.rules.specs.declared.Kind.the-variants.{Master, Config, Vector, Pola
 use Rattle.rules.specs.declared.Kind.the-variants.{Data, Current, Constant, CounterMode, CurrentVector, PortMode, Handshake, PatternPolarity, Transition, Mask, Absent}
 use Rattle.basics.specs.Signs.{within}
 use Rattle.basics.specs.Byte.{bit}
-use Rattle.rules.specs.Record.{Shaped, freshOf, vacant, ofPort, ofCounter, resetOf}
+use Rattle.rules.specs.Record.{Shaped, patternAt, transferAt, freshOf, vacant, ofPort, ofCounter, resetOf}
 use Rattle.rules.specs.With.{withMaster, withVector, withPort, withPattern, withTransfer, withCounter, withSource, withIei, withPhase}
 use Rattle.rules.specs.Report.{noReport}
-use Rattle.rules.specs.Registers.{reset, kindOf}
+use Rattle.rules.specs.Registers.{reset, kindOf, portEnabled}
 use Rattle.rules.specs.Interrupts.{acknowledged}
 use Rattle.rules.specs.Step.{eventAt, turned, counterTurn, catchers, matchedBy, patternTurn, settled, stepOf, reported, clockOf, ranOf}
 use Rattle.basics.specs.Iterate.{iterate}
-use Rattle.rules.specs.Moves.{worksAt, ackinAt, strobes, takenAt, movesAt, movesOf, givenAt}
-use Rattle.rules.specs.Access.{readsByte, afterRead, masterWritten, configWritten, portCommanded, counterCommanded, writtenOf}
+use Rattle.rules.specs.Handshakes.{inputs, outputs, ackinAt}
+use Rattle.rules.specs.Moves.{heldAt, putAt, worksAt, falls, takenAt, leftAt, movesAt, movesOf, givenAt, storedAt}
+use Rattle.rules.specs.Access.{readsByte, afterRead, masterWritten, configWritten, portCommanded, counterCommanded, dataWritten, writtenOf}
 use Rattle.rules.specs.Events.{isX, isW, isR, isP, isT, isK, writeEffect, readEffect, outsideSet, pinsEffect, clocksEffect, acknowledgeEffect, ieiEffect, effectOf, outcomeOf, eventOf}
 use Rattle.basics.proofs.Tests.{by-test}
 use Rattle.theorems.proofs.Fates.{by-source}
@@ -125,11 +126,40 @@ pub ran-shaped : (n : ℕ) (d : Device) → Shaped d → Shaped (ranOf n d .devi
 unfolding ranOf
 ran-shaped n d h = clocks-shaped n (record { device = d; report = noReport }) h
 
--- ---- the moves of a W or a P
-moves-at-shaped : (p : ℕ) (d0 d : Device) → Shaped d → Shaped (movesAt p d0 d)
-unfolding movesAt takenAt
+-- ---- bytes that move
+-- one is put out, or not
+put-shaped : (d : Device) (p : ℕ) (puts : Bool) (b : ℕ) → Shaped d → Shaped (cond puts (putAt d p b) d)
+unfolding putAt
+put-shaped d p true b h = port-shaped d h p _
+put-shaped d p false b h = h
+
+module _ (d : Device) (h : Shaped d) (p : ℕ) where
+  taken-shaped : Shaped (takenAt d p)
+  unfolding takenAt heldAt
+  taken-shaped = source-shaped (withTransfer d p _) (transfer-shaped d h p _) (ofPort p) _
+
+  left-shaped : Shaped (leftAt d p)
+  unfolding leftAt heldAt
+  left-shaped =
+      let two = eqb (transferAt d p .bytes) 2 in
+      let e = cond two (putAt d p (transferAt d p .behind)) d in
+      source-shaped (withTransfer e p _) (transfer-shaped e (put-shaped d p two (transferAt d p .behind) h) p _) (ofPort p) _
+
+  given-shaped : Shaped (givenAt d p)
+  unfolding givenAt heldAt
+  given-shaped = source-shaped (withTransfer d p _) (transfer-shaped d h p _) (ofPort p) _
+
+  stored-shaped : (b : ℕ) → Shaped (storedAt d p b)
+  unfolding storedAt heldAt
+  stored-shaped b =
+      let none = eqb (transferAt d p .bytes) 0 in
+      let e = cond none (putAt d p b) d in
+      source-shaped (withTransfer e p _) (transfer-shaped e (put-shaped d p none b h) p _) (ofPort p) _
+
+pub moves-at-shaped : (p : ℕ) (d0 d : Device) → Shaped d → Shaped (movesAt p d0 d)
+unfolding movesAt
 moves-at-shaped p d0 d h =
-    by-test Shaped (strobes d0 d p) _ _ (λ _. source-shaped (withTransfer d p _) (transfer-shaped d h p _) (ofPort p) _)
+    by-test Shaped (falls d0 d p) _ _ (λ _. by-test Shaped (inputs (patternAt d p)) _ _ (λ _. taken-shaped d h p) (λ _. left-shaped d h p))
     (λ _. by-test Shaped (worksAt d p && ackinAt d p) _ _ (λ _. transfer-shaped d h p _) (λ _. h))
 
 moves-shaped : (d0 d : Device) → Shaped d → Shaped (movesOf d0 d)
@@ -138,8 +168,8 @@ moves-shaped d0 d h = moves-at-shaped 1 d0 _ (moves-at-shaped 0 d0 d h)
 
 -- ---- the other events
 module _ (d : Device) (h : Shaped d) where
-  written-shaped : (k : Kind) (b : ℕ) → Shaped (writtenOf d k b)
-  unfolding writtenOf masterWritten configWritten portCommanded counterCommanded
+  pub written-shaped : (k : Kind) (b : ℕ) → Shaped (writtenOf d k b)
+  unfolding writtenOf masterWritten configWritten portCommanded counterCommanded dataWritten
   written-shaped Master b =
       by-test Shaped (bit b 0) (resetOf d) (withMaster d b) (λ _. reset-shaped d)
       (λ _. shaped d (withMaster d b) h refl refl refl refl refl refl)
@@ -154,7 +184,8 @@ module _ (d : Device) (h : Shaped d) where
       let f = withSource e (ofPort p) _ in
       transfer-shaped f (source-shaped e (pattern-shaped d h p _) (ofPort p) _) p _
   written-shaped (CounterCommand i) b = source-shaped (withCounter d i _) (counter-shaped d h i _) (ofCounter i) _
-  written-shaped (Data p) b = port-shaped d h p _
+  written-shaped (Data p) b =
+      by-test Shaped (outputs (patternAt d p) && portEnabled d p) _ _ (λ _. stored-shaped d h p b) (λ _. port-shaped d h p _)
   written-shaped (Current i high) b = h
   written-shaped (Constant i high) b = counter-shaped d h i _
   written-shaped (CounterMode i) b = counter-shaped d h i _
@@ -167,12 +198,12 @@ module _ (d : Device) (h : Shaped d) where
   written-shaped Absent b = h
 
   read-shaped : (a : ℕ) → Shaped (afterRead d a)
-  unfolding afterRead givenAt
+  unfolding afterRead
   read-shaped a =
       by-test Shaped (within 0x10 0x15 a && bit a 0) _ _ (λ _. counter-shaped d h _ _)
-      (λ _. by-test Shaped (readsByte d a) _ d (λ _. source-shaped (withTransfer d _ _) (transfer-shaped d h _ _) _ _) (λ _. h))
+      (λ _. by-test Shaped (readsByte d a) _ d (λ _. given-shaped d h _) (λ _. h))
 
-  outside-shaped : (a b c : ℕ) → Shaped (outsideSet d a b c)
+  pub outside-shaped : (a b c : ℕ) → Shaped (outsideSet d a b c)
   unfolding outsideSet
   outside-shaped a b c = record { vectors = h .vectors; ports = refl; patterns = h .patterns; transfers = h .transfers; counters = h .counters; sources = h .sources }
 

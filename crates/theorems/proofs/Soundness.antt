@@ -1,4 +1,4 @@
--- Every event takes a sound record to a sound record, from the fresh device on. No length of a list and no range of a number is asked.
+-- Every event takes a sound record of the device's shape to a sound record, from the fresh device on. No range of a number is asked.
 -- Assumes nothing.
 use Prim.Native.Nat.{ℕ}
 use mathlib.Core.Path.{_≡_, refl, sym, _∙_}
@@ -9,7 +9,7 @@ use Rattle.rules.specs.declared.Device.{Device}
 use Rattle.rules.specs.declared.Event.{Event}
 use Rattle.rules.specs.declared.Outcome.{Outcome}
 use Rattle.rules.specs.declared.Ran.{Ran}
-use Rattle.rules.specs.Record.{freshOf, resetOf}
+use Rattle.rules.specs.Record.{Shaped, freshOf, resetOf}
 use Rattle.rules.specs.Step.{clockOf, ranOf}
 use Rattle.basics.specs.Iterate.{iterate}
 use Rattle.rules.specs.Events.{outcomeOf, eventOf}
@@ -19,6 +19,7 @@ use Rattle.theorems.proofs.Clauses.{sound-parts, parts-sound}
 use Rattle.theorems.proofs.Stepless.{reset-sound}
 use Rattle.theorems.proofs.Accepted.{clock-parts, clocks-parts, ran-parts, effect-parts}
 use Rattle.theorems.proofs.Refusals.{ways, code-is, code-9}
+use Rattle.theorems.proofs.Shapes.{fresh-shaped, event-shaped}
 
 -- the fresh device is sound
 pub fresh-sound : soundOf freshOf ≡ true
@@ -36,22 +37,22 @@ pub ran-sound : (n : ℕ) (d : Device) → soundOf d ≡ true → soundOf (ranOf
 ran-sound n d h = parts-sound (ranOf n d .device) (ran-parts n d (sound-parts d h))
 
 -- every event
-pub event-sound : (d : Device) (e : Event) → soundOf d ≡ true → soundOf (eventOf d e .device) ≡ true
+pub event-sound : (d : Device) (e : Event) → Shaped d → soundOf d ≡ true → soundOf (eventOf d e .device) ≡ true
 unfolding outcomeOf
-event-sound d e h =
-    ways d e (λ (o : Outcome). soundOf (o .device) ≡ true) (λ _. h) (λ z. parts-sound _ (effect-parts d e z (sound-parts d h))) (λ _. h)
+event-sound d e k h =
+    ways d e (λ (o : Outcome). soundOf (o .device) ≡ true) (λ _. h) (λ z. parts-sound _ (effect-parts d e z k (sound-parts d h))) (λ _. h)
 
 -- any events, one after another
 abbrev pub after : Device → List Event → Device
 after d [] = d
 after d (e ∷ es) = after (eventOf d e .device) es
 
-pub events-sound : (es : List Event) (d : Device) → soundOf d ≡ true → soundOf (after d es) ≡ true
-events-sound [] d h = h
-events-sound (e ∷ es) d h = events-sound es (eventOf d e .device) (event-sound d e h)
+pub events-sound : (es : List Event) (d : Device) → Shaped d → soundOf d ≡ true → soundOf (after d es) ≡ true
+events-sound [] d k h = h
+events-sound (e ∷ es) d k h = events-sound es (eventOf d e .device) (event-shaped d k e) (event-sound d e k h)
 
 -- so from the fresh device no event comes to code 9
 pub never-unsound : (es : List Event) (e : Event) → eventOf (after freshOf es) e .answer .code ≡ 9 → ⊥
 never-unsound es e n =
     let d = after freshOf es in
-    true≢false (sym (events-sound es freshOf fresh-sound) ∙ not-so (soundOf d) (code-9 d e .0 (sym (code-is d e) ∙ n)))
+    true≢false (sym (events-sound es freshOf fresh-shaped fresh-sound) ∙ not-so (soundOf d) (code-9 d e .0 (sym (code-is d e) ∙ n)))

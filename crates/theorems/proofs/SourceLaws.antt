@@ -10,9 +10,9 @@ use Rattle.rules.specs.declared.Transfer.{Transfer}
 use Rattle.rules.specs.Registers.{ipCleared, commanded}
 use Rattle.rules.specs.With.{withIus, withIe, withIp, withHidden}
 use Rattle.rules.specs.Handshakes.{itb}
-use Rattle.rules.specs.Moves.{askedBy, readBy}
+use Rattle.rules.specs.Moves.{askedIf, servedBy, pairBy}
 use Rattle.rules.specs.Access.{clearsIp}
-use Rattle.basics.proofs.Tests.{left, right, not-so, never, by-test}
+use Rattle.basics.proofs.Tests.{so-both, left, right, not-so, never, by-test}
 use Rattle.theorems.proofs.Parts.{SourceSound}
 
 pub ius-sound : (s : Source) (v : Bool) → SourceSound s → SourceSound (withIus s v)
@@ -67,18 +67,31 @@ commanded-ip s n k i =
     (by-test (λ (r : Source). So (r .ip)) (eqb n 5) _ _ (λ t. neither (eqb n 1) (eqb n 5) k (simp (t, or-true)))
     (λ _. kept 6 _ _ i (kept 7 _ _ i i))))))
 
--- ---- a byte comes, and a byte goes
+-- ---- a byte that moves asks, or does not; a read or a write of the data clears IP, or a pair is half done
+module _ (asks : Bool) (s : Source) where
+  pub asked-source : SourceSound s → SourceSound (askedIf asks s)
+  unfolding askedIf
+  asked-source h = by-test SourceSound asks _ _ (λ _. ip-sound s h) (λ _. h)
+
+  pub asked-ip : So (s .ip) → So (askedIf asks s .ip)
+  unfolding askedIf
+  asked-ip i = by-test (λ (r : Source). So (r .ip)) asks _ _ (λ _. refl) (λ _. i)
+
 module _ (q : Pattern) (t : Transfer) (s : Source) where
-  pub asked-source : SourceSound s → SourceSound (askedBy q t s)
-  unfolding askedBy
-  asked-source h = by-test SourceSound (cond (itb q) (eqb (t .bytes) 1) (eqb (t .bytes) 0)) _ _ (λ _. ip-sound s h) (λ _. h)
+  pub served-source : SourceSound s → SourceSound (servedBy q t s)
+  unfolding servedBy
+  served-source h = by-test SourceSound (itb q && not (t .pair)) _ _ (λ _. h) (λ _. cleared-sound s)
 
-  pub asked-ip : So (s .ip) → So (askedBy q t s .ip)
-  unfolding askedBy
-  asked-ip i = by-test (λ (r : Source). So (r .ip)) (cond (itb q) (eqb (t .bytes) 1) (eqb (t .bytes) 0)) _ _ (λ _. refl) (λ _. i)
+  -- a pair half done has IP and ITB
+  pub pair-asks : So (pairBy q t s) → So (s .ip && itb q)
+  unfolding pairBy
+  pair-asks p =
+      let i = left (itb q && s .ip) (not (t .pair)) p in
+      so-both (right (itb q) (s .ip) i) (left (itb q) (s .ip) i)
 
-  pub read-source : SourceSound s → SourceSound (readBy q t s)
-  unfolding readBy
-  read-source h =
-      by-test SourceSound (itb q) _ _ (λ _. by-test SourceSound (t .pair) _ _ (λ _. cleared-sound s) (λ _. h))
-      (λ _. by-test SourceSound (eqb (t .bytes) 2) _ _ (λ _. ip-sound (ipCleared s) (cleared-sound s)) (λ _. cleared-sound s))
+  -- and leaves IP where it is
+  pub pair-ip : So (pairBy q t s) → So (servedBy q t s .ip)
+  unfolding pairBy servedBy
+  pair-ip p =
+      let i = left (itb q && s .ip) (not (t .pair)) p in
+      simp (left (itb q) (s .ip) i, not-so (t .pair) (right (itb q && s .ip) (not (t .pair)) p)) (right (itb q) (s .ip) i)

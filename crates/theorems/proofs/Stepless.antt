@@ -1,32 +1,33 @@
 -- What changes a sound record without a step keeps it sound: a read, an acknowledge, IEI, the phase; and a reset leaves a sound record.
 -- Assumes nothing.
 use Prim.Native.Nat.{ℕ, _-_, _/_, _<_}
-use mathlib.Core.Path.{_≡_, refl, ap, subst}
-use mathlib.Core.Bool.{Bool, true, false, not, _&&_, So}
-use lib.Dec.{eqb}
-use borrow.Author.Tests.{eqb-false}
+use mathlib.Core.Path.{_≡_, refl, ap}
+use mathlib.Core.Bool.{Bool, true, false, _&&_, So}
+use native.Mathlib.Omega.{arith}
+use lib.Dec.{eqb, leb}
+use borrow.Author.Tests.{leb-true}
 use Rattle.rules.specs.declared.Device.{Device}
 use Rattle.basics.specs.Signs.{within}
 use Rattle.basics.specs.Byte.{bit, every}
-use Rattle.rules.specs.Record.{portAt, patternAt, transferAt, counterAt, sourceAt, vacant, ofPort, resetOf}
-use Rattle.rules.specs.With.{withTransfer, withCounter, withIei, withPhase, withIus}
+use Rattle.rules.specs.Record.{portAt, patternAt, counterAt, sourceAt, resetOf}
+use Rattle.rules.specs.With.{withCounter, withIei, withPhase, withIus}
 use Rattle.rules.specs.Registers.{reset, portOn, portEnabled}
-use Rattle.rules.specs.Handshakes.{handshakes, irfOf, irfAt}
+use Rattle.rules.specs.Handshakes.{inputs, irfAt}
 use Rattle.rules.specs.Counters.{thawed}
 use Rattle.rules.specs.PortData.{catches, catchesAt}
-use Rattle.rules.specs.Moves.{movedUp, readBy, givenAt}
+use Rattle.rules.specs.Moves.{heldAt, givenAt}
 use Rattle.rules.specs.Interrupts.{firstOf, first, requests, requester, acknowledged}
 use Rattle.rules.specs.Access.{readsByte, afterRead}
 use Rattle.rules.specs.Sound.{pmfOnly, catcherOnly, catcherSet, soundPort, soundPortAt}
-use Rattle.basics.proofs.Tests.{right, not-so, never, by-test}
-use Rattle.basics.proofs.Places.{each2, each3, set-gives}
+use Rattle.basics.proofs.Tests.{left, right, never, by-test}
+use Rattle.basics.proofs.Places.{each2, each3}
 use Rattle.theorems.proofs.Parts.{Version, Cleared, Base, Sound}
 use Rattle.theorems.proofs.CounterLaws.{thawed-sound}
-use Rattle.theorems.proofs.SourceLaws.{ius-sound, read-source}
-use Rattle.theorems.proofs.TransferLaws.{moved-sound, moved-ip}
+use Rattle.theorems.proofs.SourceLaws.{ius-sound}
 use Rattle.theorems.proofs.Effective.{port-kept}
-use Rattle.theorems.proofs.Stores.{base-transfer, base-counter, base-source}
-use Rattle.theorems.proofs.Writes.{awake, reset-base, one-port}
+use Rattle.theorems.proofs.Stores.{awake, base-counter, base-source}
+use Rattle.theorems.proofs.Moves.{given-base}
+use Rattle.theorems.proofs.Writes.{reset-base}
 
 -- ---- a reset
 pub reset-sound : (d : Device) → Version (d .version) → portAt d 2 .outside < 16 → Sound (resetOf d)
@@ -37,6 +38,13 @@ reset-sound d v h =
       ports = each3 (λ p. So (soundPortAt (resetOf d) p)) refl refl refl;
       patterns = each2 (λ p. So (pmfOnly (portEnabled (resetOf d) p) (patternAt (resetOf d) p))) refl refl;
     }
+
+-- ---- a byte is read at 0DH or 0EH
+read-place : (d : Device) (a : ℕ) → So (readsByte d a) → a - 0x0D < 2
+unfolding readsByte
+read-place d a r =
+    let high = right (leb 0x0D a) (leb a 0x0E) (left (within 0x0D 0x0E a) (inputs (patternAt d (a - 0x0D))) r) in
+    omega (arith, leb-true a 0x0E high)
 
 -- ---- a read: of a low count byte, whose counter is thawed, or of the byte in front of a port with handshake
 module _ (d : Device) (z : reset d ≡ false) (h : Sound d) where
@@ -49,26 +57,12 @@ module _ (d : Device) (z : reset d ≡ false) (h : Sound d) where
         patterns = h .patterns;
       }
 
-  some : (p : ℕ) → So (irfAt d p) → transferAt d p .bytes ≡ 0 → ⊥
-  unfolding irfOf
-  some p i =
-      let n = eqb (transferAt d p .bytes) 0 in
-      eqb-false (transferAt d p .bytes) 0 (not-so n (right (handshakes (patternAt d p)) (not n) i))
-
-  given-sound : (p : ℕ) → So (irfAt d p) → Sound (givenAt d p)
-  unfolding givenAt
-  given-sound p i =
-      let q = patternAt d p in
-      let s = sourceAt d (ofPort p) in
-      let t = transferAt d p in
-      let e = withTransfer d p (movedUp q s t) in
-      let asks : So (transferAt e p .pair) → So (readBy q t s .ip) =
-      set-gives (λ u. So (u .pair) → So (readBy q t s .ip)) (d .transfers) p (movedUp q s t) vacant (moved-ip q s t) (λ n. never refl n) in
+  given-sound : (p : ℕ) → p < 2 → So (irfAt d p) → Sound (givenAt d p)
+  unfolding givenAt heldAt
+  given-sound p l i =
       record {
-        base =
-            base-source e (ofPort p) (readBy q t s) (base-transfer d p (movedUp q s t) (h .base) (moved-sound t (some p i)) (awake z))
-            (read-source q t s) (λ j g r _. asks (subst (λ (n : ℕ). So (transferAt e n .pair)) (one-port j p g) r)) (awake z);
-        ports = λ j l. port-kept d (givenAt d p) refl (λ _. refl) j refl (h .ports j l);
+        base = given-base d p l z (h .base) i;
+        ports = λ j g. port-kept d (givenAt d p) refl (λ _. refl) j refl (h .ports j g);
         patterns = h .patterns;
       }
 
@@ -77,7 +71,7 @@ module _ (d : Device) (z : reset d ≡ false) (h : Sound d) where
   unfolding afterRead
   read-sound a i =
       by-test Sound (within 0x10 0x15 a && bit a 0) _ _ (λ _. thaw-sound ((a - 0x10) / 2))
-      (λ _. by-test Sound (readsByte d a) _ _ (λ r. given-sound (a - 0x0D) (i r)) (λ _. h))
+      (λ _. by-test Sound (readsByte d a) _ _ (λ r. given-sound (a - 0x0D) (read-place d a r) (i r)) (λ _. h))
 
 -- ---- an acknowledge: under RESET there is no requester
 no-requester : (d : Device) → Cleared d → requester d ≡ 5

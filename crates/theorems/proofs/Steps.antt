@@ -10,10 +10,10 @@ use Rattle.rules.specs.declared.Pattern.{Pattern}
 use Rattle.rules.specs.declared.Device.{Device}
 use Rattle.rules.specs.declared.Counted.{Counted}
 use Rattle.rules.specs.declared.Link.{Link}
-use Rattle.rules.specs.Record.{portAt, patternAt, counterAt, sourceAt, bare, blank, ofPort, ofCounter}
+use Rattle.rules.specs.Record.{portAt, patternAt, transferAt, counterAt, sourceAt, bare, blank, ofPort, ofCounter}
 use Rattle.rules.specs.With.{withPattern, withCounter, withSource, withIp, withHidden, withPmf}
 use Rattle.rules.specs.Registers.{portOn, portEnabled, counterOn, counterEnabled}
-use Rattle.rules.specs.Handshakes.{isLine}
+use Rattle.rules.specs.Handshakes.{isLine, ackinAt, offersAt, shownAt}
 use Rattle.rules.specs.PortData.{directionAt, specialAt, effectiveAt, lined, valueAt, pinsOf, pathOf, pinsAt, pathAt, seenAt}
 use Rattle.rules.specs.Counters.{unlinked, reachOf, turnOf}
 use Rattle.rules.specs.Patterns.{matchOf}
@@ -30,7 +30,7 @@ use Rattle.theorems.proofs.Effective.{port-kept}
 use Rattle.theorems.proofs.PatternLaws.{pmf-sound, match-off}
 use Rattle.theorems.proofs.TransferLaws.{settings-kept}
 use Rattle.theorems.proofs.Frame.{pmf-modes}
-use Rattle.theorems.proofs.Stores.{cleared-ports, cleared-pattern, cleared-counter, base-ports, base-pattern, base-counter, base-source}
+use Rattle.theorems.proofs.Stores.{cleared-ports, cleared-pattern, cleared-counter, TransferBy, base-ports, base-pattern, base-counter, base-source}
 
 -- ---- an event at a source; under RESET there is none
 event-base : (d : Device) (k : ℕ) (hides happens : Bool) → Base d → (Cleared d → happens ≡ false) → Base (eventAt d k hides happens)
@@ -83,7 +83,9 @@ catchers-base : (d : Device) → Base d → Base (catchers d)
 unfolding catchers caughtAt
 catchers-base d h =
     let qs = caughtAt d 0 ∷ caughtAt d 1 ∷ caughtAt d 2 ∷ [] in
-    base-ports d qs h (caught-four (portEnabled d 2) (portAt d 2) (effectiveAt d 2) (pathAt d 2) (effective-four d (h .four)) (h .four))
+    base-ports d qs h
+    (each2 (λ p. TransferBy d p (getD qs p (bare 0) .output) (patternAt d p) (transferAt d p)) (h .transfers 0 (lit< tt)) (h .transfers 1 (lit< tt)))
+    (caught-four (portEnabled d 2) (portAt d 2) (effectiveAt d 2) (pathAt d 2) (effective-four d (h .four)) (h .four))
     (λ c.
     cleared-ports d qs c
     (each3 (λ p. getD qs p (bare 0) ≡ bare (getD qs p (bare 0) .outside))
@@ -91,7 +93,7 @@ catchers-base d h =
 
 -- the paths do not go by the catchers
 catchers-ports : (d : Device) (p : ℕ) → p < 3 → So (soundPortAt (catchers d) p)
-unfolding soundPortAt catchers caughtAt pathAt pinsAt pinsOf pathOf directionAt specialAt valueAt lined isLine
+unfolding soundPortAt catchers caughtAt pathAt pinsAt pinsOf pathOf directionAt specialAt valueAt lined isLine shownAt offersAt ackinAt
 catchers-ports d =
     each3 (λ p. So (soundPortAt (catchers d) p))
     (caught-sound (portEnabled d 0) (effectiveAt d 0) (pathAt d 0))

@@ -29,10 +29,10 @@ pub cut-trace : (d : Device) (l m : List Event) → tracedOf d (l ++ m) ≡ foll
 cut-trace d l m = λ i. record { answers = cut-answers d l m i; device = cut-record d l m i }
 
 -- ---- kept by all
-pub list-sound : (d : Device) (l : List Event) → soundOf d ≡ true → soundOf (recordAfter d l) ≡ true
+pub list-sound : (d : Device) (l : List Event) → Shaped d → soundOf d ≡ true → soundOf (recordAfter d l) ≡ true
 unfolding recordAfter
-list-sound d [] s = s
-list-sound d (e ∷ l) s = list-sound (eventOf d e .device) l (event-sound d e s)
+list-sound d [] h s = s
+list-sound d (e ∷ l) h s = list-sound (eventOf d e .device) l (event-shaped d h e) (event-sound d e h s)
 
 pub list-shaped : (d : Device) (l : List Event) → Shaped d → Shaped (recordAfter d l)
 unfolding recordAfter
@@ -47,7 +47,7 @@ module _ (f : Device → Device) (leaves : (d : Device) → Shaped d → soundOf
   unseen d l [] h s = ap (tracedOf d) (sym (append-nil l))
   unseen d l (m ∷ ms) h s =
       let h′ = list-shaped d l h in
-      let s′ = list-sound d l s in
+      let s′ = list-sound d l h s in
       ap (λ (e : Device). onto (cutBy f e m ms)) (leaves (recordAfter d l) h′ s′) ∙ ap onto (unseen (recordAfter d l) m ms h′ s′)
       ∙ sym (cut-trace d l (flatten (m ∷ ms)))
     where

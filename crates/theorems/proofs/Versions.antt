@@ -1,14 +1,13 @@
 -- Paper 02, W-205: every event keeps the version, a reset too; and what a sound record of version 1 has not.
 -- Assumes nothing.
-use Prim.Native.Nat.{ℕ, zero, suc, _+_, _*_, _/_, _<_}
+use Prim.Native.Nat.{ℕ, _+_, _*_, _/_, _<_}
 use mathlib.Core.Path.{_≡_, refl, ap, subst, _∙_}
 use mathlib.Core.Bool.{Bool, true, false, not, _&&_, _||_, So}
 use mathlib.Core.List.{List, [], _∷_}
 use native.Mathlib.Omega.{arith}
 use lib.Dec.{eqb}
-use borrow.Author.Tests.{ltb-false, le-ltb, ne-eqb}
+use borrow.Author.Tests.{lt-ltb, ltb-false, le-ltb, ne-eqb}
 use Rattle.rules.specs.declared.Device.{Device}
-use Rattle.rules.specs.declared.Ran.{Ran}
 use Rattle.rules.specs.declared.Event.{Event}
 use Rattle.rules.specs.declared.Effect.{Effect}
 use Rattle.rules.specs.declared.Outcome.{Outcome}
@@ -17,18 +16,16 @@ use Rattle.rules.specs.declared.Kind.the-variants.{Master, Config, Vector, Pola
 use Rattle.rules.specs.declared.Kind.the-variants.{Data, Current, Constant, CounterMode, CurrentVector, PortMode, Handshake, PatternPolarity, Transition, Mask, Absent}
 use Rattle.basics.specs.Signs.{within}
 use Rattle.basics.specs.Byte.{bit}
-use Rattle.basics.specs.Iterate.{iterate}
-use Rattle.rules.specs.Record.{patternAt, counterAt, resetOf, freshOf}
+use Rattle.rules.specs.Record.{patternAt, transferAt, counterAt, resetOf, freshOf}
 use Rattle.rules.specs.With.{withMaster, withPhase}
-use Rattle.rules.specs.Report.{noReport}
-use Rattle.rules.specs.Registers.{reset, kindOf, readOnly, laterPortMode, later}
-use Rattle.rules.specs.Handshakes.{handshakes}
-use Rattle.rules.specs.Step.{stepOf, reported, clockOf, ranOf}
+use Rattle.rules.specs.Registers.{reset, kindOf, portEnabled, readOnly, laterPortMode, later}
+use Rattle.rules.specs.Handshakes.{inputs, outputs, handshakes, ackinAt}
+use Rattle.rules.specs.Step.{stepOf, ranOf}
 use Rattle.rules.specs.Interrupts.{acknowledged}
-use Rattle.rules.specs.Moves.{worksAt, ackinAt, strobes, takenAt, movesAt, movesOf, givenAt}
-use Rattle.rules.specs.Access.{readsByte, afterRead, masterWritten, configWritten, portCommanded, counterCommanded, writtenOf}
+use Rattle.rules.specs.Moves.{heldAt, putAt, worksAt, falls, takenAt, leftAt, movesAt, movesOf, givenAt, storedAt}
+use Rattle.rules.specs.Access.{readsByte, writesByte, afterRead, masterWritten, configWritten, portCommanded, counterCommanded, dataWritten, writtenOf}
 use Rattle.rules.specs.Sound.{soundOf}
-use Rattle.rules.specs.Events.{isX, isW, isR, isP, isT, isK, unknown, noRegister, tooLarge, held, noByte, codeOf}
+use Rattle.rules.specs.Events.{isX, isW, isR, isP, isT, isK, unknown, noRegister, tooLarge, held, noByte, noRoom, codeOf}
 use Rattle.rules.specs.Events.{writeEffect, readEffect, outsideSet, pinsEffect, clocksEffect, acknowledgeEffect, ieiEffect, effectOf, outcomeOf, eventOf}
 use Rattle.basics.proofs.Tests.{left, never, by-test}
 use Rattle.basics.proofs.Places.{each2}
@@ -37,30 +34,15 @@ use Rattle.theorems.specs.Used.{of}
 use Rattle.theorems.proofs.Clauses.{sound-parts}
 use Rattle.theorems.proofs.Refusals.{ways, code-is}
 use Rattle.theorems.proofs.Frame.{frame-step}
-use Rattle.theorems.proofs.Reports.{clock-held, clock-first, clock-timer}
+use Rattle.theorems.proofs.Reports.{ran-keeps}
 
 -- fresh devices are of version 2
 pub fresh-version : freshOf .version ≡ 2
 fresh-version = refl
 
 -- ---- the clock
-abbrev versionIn : Ran → ℕ
-versionIn s = s .device .version
-
-clock-by : (v p : Bool) (s : Ran) → reset (s .device) ≡ v → s .device .phase ≡ p → versionIn (clockOf s) ≡ versionIn s
-unfolding reported
-clock-by true p s e q = ap versionIn (clock-held s e)
-clock-by false false s e q = ap versionIn (clock-first s e q)
-clock-by false true s e q = ap versionIn (clock-timer s e q) ∙ frame-step true (s .device) (withPhase (s .device) false) .version
-
-clocks-by : (n : ℕ) (s : Ran) → versionIn (iterate n clockOf s) ≡ versionIn s
-unfolding iterate
-clocks-by zero s = refl
-clocks-by (suc n) s = clock-by _ _ (iterate n clockOf s) refl refl ∙ clocks-by n s
-
 pub ran-version : (n : ℕ) (d : Device) → ranOf n d .device .version ≡ d .version
-unfolding ranOf
-ran-version n d = clocks-by n (record { device = d; report = noReport })
+ran-version n d = ran-keeps (λ (e : Device). e .version) (λ e v. refl) (λ e. frame-step true e (withPhase e false) .version) n d
 
 -- ---- the other events: all have the version of d
 module _ (d : Device) where
@@ -68,8 +50,12 @@ module _ (d : Device) where
   Kept e = e .version ≡ d .version
 
   moves-at : (p : ℕ) (d0 e : Device) → Kept e → Kept (movesAt p d0 e)
-  unfolding movesAt takenAt
-  moves-at p d0 e h = by-test Kept (strobes d0 e p) _ _ (λ _. h) (λ _. by-test Kept (worksAt e p && ackinAt e p) _ e (λ _. h) (λ _. h))
+  unfolding movesAt takenAt leftAt heldAt putAt
+  moves-at p d0 e h =
+      let t = transferAt e p in
+      by-test Kept (falls d0 e p) _ _
+      (λ _. by-test Kept (inputs (patternAt e p)) _ _ (λ _. h) (λ _. by-test Kept (eqb (t .bytes) 2) (putAt e p (t .behind)) e (λ _. h) (λ _. h)))
+      (λ _. by-test Kept (worksAt e p && ackinAt e p) _ e (λ _. h) (λ _. h))
 
   -- (a), with its moves, and the step
   moved : (e : Device) → Kept e → Kept (stepOf false d (movesOf d e) .device)
@@ -77,7 +63,7 @@ module _ (d : Device) where
   moved e h = frame-step false d (movesOf d e) .version ∙ moves-at 1 d (movesAt 0 d e) (moves-at 0 d e h)
 
   written : (k : Kind) (b : ℕ) → Kept (writtenOf d k b)
-  unfolding writtenOf masterWritten resetOf configWritten portCommanded counterCommanded
+  unfolding writtenOf masterWritten resetOf configWritten portCommanded counterCommanded dataWritten storedAt heldAt putAt
   written Master b = by-test Kept (bit b 0) (resetOf d) (withMaster d b) (λ _. refl) (λ _. refl)
   written Config b = refl
   written (Vector v) b = refl
@@ -86,7 +72,9 @@ module _ (d : Device) where
   written (Special p) b = refl
   written (PortCommand p) b = refl
   written (CounterCommand i) b = refl
-  written (Data p) b = refl
+  written (Data p) b =
+      by-test Kept (outputs (patternAt d p) && portEnabled d p) _ _
+      (λ _. by-test Kept (eqb (transferAt d p .bytes) 0) (putAt d p b) d (λ _. refl) (λ _. refl)) (λ _. refl)
   written (Current i high) b = refl
   written (Constant i high) b = refl
   written (CounterMode i) b = refl
@@ -99,7 +87,7 @@ module _ (d : Device) where
   written Absent b = refl
 
   after-read : (a : ℕ) → Kept (afterRead d a)
-  unfolding afterRead givenAt
+  unfolding afterRead givenAt heldAt
   after-read a =
       by-test Kept (within 0x10 0x15 a && bit a 0) _ _ (λ _. refl) (λ _. by-test Kept (readsByte d a) _ d (λ _. refl) (λ _. refl))
 
@@ -142,19 +130,19 @@ none-of : (a b : Bool) → (a || b) ≡ false → a ≡ false
 none-of true b h = h
 none-of false b h = refl
 
-no-handshake-by : (n m : ℕ) (b : Bool) → (laterPortMode n m || b) ≡ false → n ≡ 1 → eqb (m / 64) 1 ≡ false
+no-handshake-by : (n m : ℕ) (b : Bool) → (laterPortMode n m || b) ≡ false → n ≡ 1 → (eqb (m / 64) 1 || eqb (m / 64) 2) ≡ false
 unfolding laterPortMode
 no-handshake-by n m b h v =
     let l = ltb-false 0 (m / 64) (none-of _ _ (none-of _ _ (none-of _ b (subst (λ (n : ℕ). (laterPortMode n m || b) ≡ false) v h)))) in
-    ne-eqb (m / 64) 1 (λ e. omega arith)
+    simp (ne-eqb (m / 64) 1 (λ e. omega arith), ne-eqb (m / 64) 2 (λ e. omega arith))
 
 pub no-handshake : (d : Device) (p : ℕ) → p < 2 → soundOf d ≡ true → d .version ≡ 1 → handshakes (patternAt d p) ≡ false
 no-handshake d p h s v = no-handshake-by (d .version) _ _ (sound-parts d s .base .modes p h) v
 
--- and refuses to have one: W 20H or 28H with D7-D6 = 01 is refused with 4
-pub handshake-refused : (d : Device) (p b : ℕ) → p < 2 → b < 256 → b / 64 ≡ 1 → d .version ≡ 1 → reset d ≡ false → soundOf d ≡ true
+-- and refuses to have one: W 20H or 28H with D7-D6 not 00 is refused with 4
+pub handshake-refused : (d : Device) (p b : ℕ) → p < 2 → b < 256 → 0 < b / 64 → d .version ≡ 1 → reset d ≡ false → soundOf d ≡ true
     → eventOf d (of 1 (0x20 + 8 * p) b 0) .answer .code ≡ 4
-unfolding codeOf unknown noRegister tooLarge held noByte later laterPortMode readOnly
+unfolding codeOf unknown noRegister tooLarge held noByte noRoom writesByte later laterPortMode readOnly
 handshake-refused d p b h l m v r s =
     let small = le-ltb 255 b (omega arith) in
-    code-is d _ ∙ each2 (λ p. codeOf d (of 1 (0x20 + 8 * p) b 0) ≡ 4) (simp (s, small, r, v, m)) (simp (s, small, r, v, m)) p h
+    code-is d _ ∙ each2 (λ p. codeOf d (of 1 (0x20 + 8 * p) b 0) ≡ 4) (simp (s, small, r, v, lt-ltb 0 (b / 64) m)) (simp (s, small, r, v, lt-ltb 0 (b / 64) m)) p h

@@ -9,8 +9,7 @@ ghost use Rattle.rules.specs.With.{withVector, withPort, withPattern, withCount
 ghost use Rattle.rules.specs.With.{withPortMode, withHandshake, withPatternPolarity, withTransition, withMask};
 ghost use Rattle.rules.specs.Registers.{kindOf, kept};
 ghost use Rattle.rules.specs.Counters.{enabledBy};
-ghost use Rattle.rules.specs.PortData.{directionAt, writtenData};
-ghost use Rattle.rules.specs.Access.{masterWritten, keptBy, configWritten, portCommanded, counterCommanded, setUp, writtenOf};
+ghost use Rattle.rules.specs.Access.{masterWritten, keptBy, configWritten, portCommanded, counterCommanded, dataWritten, setUp, writtenOf};
 ghost use Rattle.registers.specs.Place.{place, places};
 use rules::Counter;
 use rules::Device;
@@ -146,8 +145,11 @@ fn command_counter(d: Device, i: usize, b: u8) -> Device
 
 fn write_data(d: Device, p: usize, b: u8) -> Device
     requires { ⌜ p < 3 ⌝ }
-    ensures { λ r. ⌜ r ≡ withPort d p (writtenData (portAt d p) (directionAt d p) p b) ⌝ }
+    ensures { λ r. ⌜ r ≡ dataWritten d p b ⌝ }
 {
+    if levels::outputs_at(d, p) & levels::port_enabled(d, p) {
+        return moves::stored(d, p, b);
+    }
     let q = data::put(d.ports[p], levels::direction_at(d, p), p, b);
     let mut e = d;
     e.ports[p] = q;

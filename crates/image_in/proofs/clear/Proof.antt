@@ -17,8 +17,8 @@ lines-clear-requires c κs = tt
 transfers-clear-requires : tie.Need-transfers-clear-requires
 transfers-clear-requires c κs = tt
 
-irf-agrees-requires : tie.Need-irf-agrees-requires
-irf-agrees-requires c κs = tt
+states-agree-requires : tie.Need-states-agree-requires
+states-agree-requires c κs = tt
 
 returns : tie.Need-returns
 unfolding unusedClear
@@ -28,7 +28,7 @@ returns c =
     let pins = lines .before in
     let counts = pins .before in
     simp (
-      c .irf-agrees .ensures,
+      c .states-agree .ensures,
       transfers .transfers-clear .ensures,
       lines .lines-clear .ensures,
       pins .pins-clear .ensures,
@@ -45,5 +45,5 @@ clear-spec =
     pins-clear-requires
     lines-clear-requires
     transfers-clear-requires
-    irf-agrees-requires
+    states-agree-requires
     returns)

@@ -40,8 +40,8 @@ returns c =
       at-effective .before .if1 .taken,
     )
 
-handshakes-at-requires : tie.Need-handshakes-at-requires
-handshakes-at-requires c κs = search needs
+inputs-at-requires : tie.Need-inputs-at-requires
+inputs-at-requires c κs = search needs
 
 front-at-requires : tie.Need-front-at-requires
 front-at-requires c κs = search needs
@@ -51,7 +51,7 @@ unfolding dataAt
 returns-2 c =
     let at-if = c .before in
     let at-asked = at-if .before in
-    simp (c .front-at .ensures, sym (at-asked .handshakes-at .ensures) ∙ at-if .if2 .taken, ne-eqb _ _ (at-asked .before .if1 .left))
+    simp (c .front-at .ensures, sym (at-asked .inputs-at .ensures) ∙ at-if .if2 .taken, ne-eqb _ _ (at-asked .before .if1 .left))
 
 seen-at-requires : tie.Need-seen-at-requires
 seen-at-requires c κs = search needs
@@ -61,7 +61,7 @@ unfolding dataAt
 returns-3 c =
     let at-if = c .before in
     let at-asked = at-if .before in
-    simp (c .seen-at .ensures, sym (at-asked .handshakes-at .ensures) ∙ at-if .if2 .left, ne-eqb _ _ (at-asked .before .if1 .left))
+    simp (c .seen-at .ensures, sym (at-asked .inputs-at .ensures) ∙ at-if .if2 .left, ne-eqb _ _ (at-asked .before .if1 .left))
 
 pub data-at-spec : {M : Type 1} → statement M
 data-at-spec =
@@ -74,7 +74,7 @@ data-at-spec =
     level-requires
     seen-requires
     returns
-    handshakes-at-requires
+    inputs-at-requires
     front-at-requires
     returns-2
     seen-at-requires

@@ -5,7 +5,7 @@ use mathlib.Core.List.{List, [], _∷_}
 use native.Mathlib.Omega.{arith}
 use lib.ListN.{length, set}
 use Rattle.rules.specs.Record.{ofPort}
-use Rattle.rules.specs.Moves.{givenAt}
+use Rattle.rules.specs.Moves.{heldAt, givenAt}
 use Rattle.basics.proofs.Lists.{length-mapped}
 use Rattle.moves.proofs.given.Statement.{statement}
 use Rattle.moves.proofs.given.Tie as tie
@@ -29,7 +29,7 @@ returns : tie.Need-returns
 returns c = search needs
 
 returns-2 : tie.Need-returns-2
-unfolding givenAt
+unfolding givenAt heldAt
 returns-2 c =
     let a = c .before .args in
     simp (past (a .d .transfers) (a .p) (omega (arith, two (c .before))), past (a .d .sources) (ofPort (a .p)) (omega (arith, five (c .before))))

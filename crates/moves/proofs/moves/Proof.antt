@@ -3,14 +3,14 @@ use Prim.Native.Nat.{ℕ}
 use mathlib.Core.Path.{_≡_}
 use mathlib.Core.Bool.{false, and-false}
 use Rattle.rules.specs.declared.Device.{Device}
-use Rattle.rules.specs.Moves.{worksAt, strobes, movesAt, movesOf}
+use Rattle.rules.specs.Moves.{worksAt, falls, movesAt, movesOf}
 use Rattle.levels.proofs.Plain.{neither}
 use Rattle.moves.proofs.moves.Statement.{statement}
 use Rattle.moves.proofs.moves.Tie as tie
 
 -- a port whose handshake is not at work moves nothing
 still : (p : ℕ) (d0 d : Device) → worksAt d p ≡ false → movesAt p d0 d ≡ d
-unfolding movesAt strobes
+unfolding movesAt falls
 still p d0 d e = simp (e, and-false)
 
 works-at-requires : tie.Need-works-at-requires

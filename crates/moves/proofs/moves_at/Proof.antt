@@ -4,15 +4,45 @@ use Rattle.rules.specs.Moves.{movesAt}
 use Rattle.moves.proofs.moves_at.Statement.{statement}
 use Rattle.moves.proofs.moves_at.Tie as tie
 
-strobes-at-requires : tie.Need-strobes-at-requires
-strobes-at-requires c κs = search needs
+falls-at-requires : tie.Need-falls-at-requires
+falls-at-requires c κs = search needs
+
+mul-inputs : tie.Need-mul-inputs
+mul-inputs c = search needs
+
+element-copy-out-inputs : tie.Need-element-copy-out-inputs
+element-copy-out-inputs c = search needs
+
+inputs-requires : tie.Need-inputs-requires
+inputs-requires c κs = search needs
 
 take-requires : tie.Need-take-requires
 take-requires c κs = search needs
 
 returns : tie.Need-returns
 unfolding movesAt
-returns c = simp (sym (c .before .before .strobes-at .ensures) ∙ c .before .if1 .taken, c .take .ensures)
+returns c =
+    let at-in = c .before .before in
+    let at-falls = at-in .before .before in
+    simp (
+      c .take .ensures,
+      sym (at-in .inputs .ensures) ∙ c .before .if2 .taken,
+      sym (at-falls .before .falls-at .ensures) ∙ at-falls .if1 .taken,
+    )
+
+leave-requires : tie.Need-leave-requires
+leave-requires c κs = search needs
+
+returns-2 : tie.Need-returns-2
+unfolding movesAt
+returns-2 c =
+    let at-in = c .before .before in
+    let at-falls = at-in .before .before in
+    simp (
+      c .leave .ensures,
+      sym (at-in .inputs .ensures) ∙ c .before .if2 .left,
+      sym (at-falls .before .falls-at .ensures) ∙ at-falls .if1 .taken,
+    )
 
 works-at-requires : tie.Need-works-at-requires
 works-at-requires c κs = search needs
@@ -23,40 +53,45 @@ ackin-at-requires c κs = search needs
 finish-requires : tie.Need-finish-requires
 finish-requires c κs = search needs
 
-returns-2 : tie.Need-returns-2
+returns-3 : tie.Need-returns-3
 unfolding movesAt
-returns-2 c =
+returns-3 c =
     let at-ackin = c .before .before in
-    let at-if = at-ackin .before .before in
+    let at-falls = at-ackin .before .before in
     simp (
       c .finish .ensures,
       ← at-ackin .ackin-at .ensures,
       ← at-ackin .before .works-at .ensures,
-      c .before .if2 .taken,
-      sym (at-if .before .strobes-at .ensures) ∙ at-if .if1 .left,
+      c .before .if3 .taken,
+      sym (at-falls .before .falls-at .ensures) ∙ at-falls .if1 .left,
     )
 
-returns-3 : tie.Need-returns-3
+returns-4 : tie.Need-returns-4
 unfolding movesAt
-returns-3 c =
+returns-4 c =
     let at-ackin = c .before in
-    let at-if = at-ackin .before .before in
+    let at-falls = at-ackin .before .before in
     simp (
       ← at-ackin .ackin-at .ensures,
       ← at-ackin .before .works-at .ensures,
-      c .if2 .left,
-      sym (at-if .before .strobes-at .ensures) ∙ at-if .if1 .left,
+      c .if3 .left,
+      sym (at-falls .before .falls-at .ensures) ∙ at-falls .if1 .left,
     )
 
 pub moves-at-spec : {M : Type 1} → statement M
 moves-at-spec =
     tie.close
     (tie.spec
-    strobes-at-requires
+    falls-at-requires
+    mul-inputs
+    element-copy-out-inputs
+    inputs-requires
     take-requires
     returns
+    leave-requires
+    returns-2
     works-at-requires
     ackin-at-requires
     finish-requires
-    returns-2
-    returns-3)
+    returns-3
+    returns-4)

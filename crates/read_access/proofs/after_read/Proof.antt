@@ -8,7 +8,7 @@ use borrow.Author.Tests.{leb-true}
 use Rattle.basics.proofs.Tests.{triple}
 use Rattle.rules.specs.declared.Device.{Device}
 use Rattle.rules.specs.Record.{patternAt}
-use Rattle.rules.specs.Handshakes.{handshakes}
+use Rattle.rules.specs.Handshakes.{inputs}
 use Rattle.rules.specs.Access.{readsByte, afterRead}
 use borrow.Author.Needs.{needs}
 use Rattle.read_access.proofs.after_read.Statement.{statement}
@@ -22,7 +22,7 @@ inside a odd e =
 -- the data of a port with handshake stand from 0DH on
 from-data : (d : Device) (a : ℕ) → readsByte d a ≡ true → 0x0D ≤ a
 unfolding readsByte
-from-data d a e = leb-true _ _ (triple (leb 0x0D a) (leb a 0x0E) (handshakes (patternAt d (a - 0x0D))) e .0)
+from-data d a e = leb-true _ _ (triple (leb 0x0D a) (leb a 0x0E) (inputs (patternAt d (a - 0x0D))) e .0)
 
 sub-thaw : tie.Need-sub-thaw
 sub-thaw c = let h = inside (c .before .args .address) _ (c .if1 .taken) in omega arith

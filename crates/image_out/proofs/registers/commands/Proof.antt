@@ -23,29 +23,17 @@ element-copy-out-ct1 c = search needs
 element-copy-out-port-command : tie.Need-element-copy-out-port-command
 element-copy-out-port-command c = search needs
 
-element-copy-out-irf : tie.Need-element-copy-out-irf
-element-copy-out-irf c = search needs
-
-element-copy-out-irf-2 : tie.Need-element-copy-out-irf-2
-element-copy-out-irf-2 c = search needs
-
-irf-requires : tie.Need-irf-requires
-irf-requires c κs = tt
+element-copy-out-port-command-2 : tie.Need-element-copy-out-port-command-2
+element-copy-out-port-command-2 c = search needs
 
 port-command-requires : tie.Need-port-command-requires
 port-command-requires c κs = tt
 
-element-copy-out-port-command-2 : tie.Need-element-copy-out-port-command-2
-element-copy-out-port-command-2 c = search needs
+element-copy-out-port-command-3 : tie.Need-element-copy-out-port-command-3
+element-copy-out-port-command-3 c = search needs
 
-element-copy-out-irf-3 : tie.Need-element-copy-out-irf-3
-element-copy-out-irf-3 c = search needs
-
-element-copy-out-irf-4 : tie.Need-element-copy-out-irf-4
-element-copy-out-irf-4 c = search needs
-
-irf-requires-2 : tie.Need-irf-requires-2
-irf-requires-2 c κs = tt
+element-copy-out-port-command-4 : tie.Need-element-copy-out-port-command-4
+element-copy-out-port-command-4 c = search needs
 
 port-command-requires-2 : tie.Need-port-command-requires-2
 port-command-requires-2 c κs = tt
@@ -74,16 +62,13 @@ returns c =
     let ct2 = c .before .before in
     let ct1 = ct2 .before .before in
     let b = ct1 .before .before in
-    let irf-b = b .before in
-    let a = irf-b .before .before .before .before in
+    let a = b .before .before .before in
     simp (
       c .counter-command3 .ensures,
       ct2 .counter-command2 .ensures,
       ct1 .counter-command .ensures,
       b .port-command2 .ensures,
-      irf-b .irf2 .ensures,
       a .port-command .ensures,
-      a .before .irf .ensures,
     )
 
 pub commands-spec : {M : Type 1} → statement M
@@ -96,14 +81,10 @@ commands-spec =
     element-copy-out-b
     element-copy-out-ct1
     element-copy-out-port-command
-    element-copy-out-irf
-    element-copy-out-irf-2
-    irf-requires
-    port-command-requires
     element-copy-out-port-command-2
-    element-copy-out-irf-3
-    element-copy-out-irf-4
-    irf-requires-2
+    port-command-requires
+    element-copy-out-port-command-3
+    element-copy-out-port-command-4
     port-command-requires-2
     element-copy-out-counter-command
     counter-command-requires

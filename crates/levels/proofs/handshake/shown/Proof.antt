@@ -12,8 +12,8 @@ two c = search (needs, length-mapped)
 any-requires : tie.Need-any-requires
 any-requires c κs = search needs
 
-with-ready-requires : tie.Need-with-ready-requires
-with-ready-requires c κs = search needs
+with-shown-requires : tie.Need-with-shown-requires
+with-shown-requires c κs = search needs
 
 returns : tie.Need-returns
 returns c = search needs
@@ -24,4 +24,4 @@ returns-2 c =
     lined-own (start .args .d) (sym (c .before .any .ensures) ∙ c .if1 .left) (two start) (start .args .x) (search needs)
 
 pub shown-spec : {M : Type 1} → statement M
-shown-spec = tie.close (tie.spec any-requires with-ready-requires returns returns-2)
+shown-spec = tie.close (tie.spec any-requires with-shown-requires returns returns-2)

@@ -13,8 +13,8 @@ stepped-at-requires c κs = search needs
 clears-requires-2 : tie.Need-clears-requires-2
 clears-requires-2 c κs = search needs
 
-clears-by-read-requires : tie.Need-clears-by-read-requires
-clears-by-read-requires c κs = search needs
+clears-by-data-requires : tie.Need-clears-by-data-requires
+clears-by-data-requires c κs = search needs
 
 stepped-at-requires-2 : tie.Need-stepped-at-requires-2
 stepped-at-requires-2 c κs = search needs
@@ -28,8 +28,8 @@ stepped-at-requires-3 c κs = search needs
 clears-requires-4 : tie.Need-clears-requires-4
 clears-requires-4 c κs = search needs
 
-clears-by-read-requires-2 : tie.Need-clears-by-read-requires-2
-clears-by-read-requires-2 c κs = search needs
+clears-by-data-requires-2 : tie.Need-clears-by-data-requires-2
+clears-by-data-requires-2 c κs = search needs
 
 stepped-at-requires-4 : tie.Need-stepped-at-requires-4
 stepped-at-requires-4 c κs = search needs
@@ -52,12 +52,12 @@ returns c =
       c .stepped-at5 .ensures,
       c .before .clears5 .ensures,
       at-4 .stepped-at4 .ensures,
-      at-4 .before .clears-by-read2 .ensures,
+      at-4 .before .clears-by-data2 .ensures,
       at-4 .before .before .clears4 .ensures,
       at-3 .stepped-at3 .ensures,
       at-3 .before .clears3 .ensures,
       at-2 .stepped-at2 .ensures,
-      at-2 .before .clears-by-read .ensures,
+      at-2 .before .clears-by-data .ensures,
       at-2 .before .before .clears2 .ensures,
       at-1 .stepped-at .ensures,
       at-1 .before .clears .ensures,
@@ -70,12 +70,12 @@ stepped-spec =
     clears-requires
     stepped-at-requires
     clears-requires-2
-    clears-by-read-requires
+    clears-by-data-requires
     stepped-at-requires-2
     clears-requires-3
     stepped-at-requires-3
     clears-requires-4
-    clears-by-read-requires-2
+    clears-by-data-requires-2
     stepped-at-requires-4
     clears-requires-5
     stepped-at-requires-5

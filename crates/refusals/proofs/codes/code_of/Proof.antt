@@ -17,47 +17,53 @@ is-later-requires c κs = search needs
 or-else-requires-2 : tie.Need-or-else-requires-2
 or-else-requires-2 c κs = search needs
 
-has-no-byte-requires : tie.Need-has-no-byte-requires
-has-no-byte-requires c κs = search needs
+has-no-room-requires : tie.Need-has-no-room-requires
+has-no-room-requires c κs = search needs
 
 or-else-requires-3 : tie.Need-or-else-requires-3
 or-else-requires-3 c κs = search needs
 
-is-read-only-requires : tie.Need-is-read-only-requires
-is-read-only-requires c κs = search needs
+has-no-byte-requires : tie.Need-has-no-byte-requires
+has-no-byte-requires c κs = search needs
 
 or-else-requires-4 : tie.Need-or-else-requires-4
 or-else-requires-4 c κs = search needs
 
-is-held-requires : tie.Need-is-held-requires
-is-held-requires c κs = search needs
+is-read-only-requires : tie.Need-is-read-only-requires
+is-read-only-requires c κs = search needs
 
 or-else-requires-5 : tie.Need-or-else-requires-5
 or-else-requires-5 c κs = search needs
 
-is-too-large-requires : tie.Need-is-too-large-requires
-is-too-large-requires c κs = search needs
+is-held-requires : tie.Need-is-held-requires
+is-held-requires c κs = search needs
 
 or-else-requires-6 : tie.Need-or-else-requires-6
 or-else-requires-6 c κs = search needs
 
-has-no-register-requires : tie.Need-has-no-register-requires
-has-no-register-requires c κs = search needs
+is-too-large-requires : tie.Need-is-too-large-requires
+is-too-large-requires c κs = search needs
 
 or-else-requires-7 : tie.Need-or-else-requires-7
 or-else-requires-7 c κs = search needs
 
-is-unknown-requires : tie.Need-is-unknown-requires
-is-unknown-requires c κs = search needs
+has-no-register-requires : tie.Need-has-no-register-requires
+has-no-register-requires c κs = search needs
 
 or-else-requires-8 : tie.Need-or-else-requires-8
 or-else-requires-8 c κs = search needs
 
-sound-requires : tie.Need-sound-requires
-sound-requires c κs = search needs
+is-unknown-requires : tie.Need-is-unknown-requires
+is-unknown-requires c κs = search needs
 
 or-else-requires-9 : tie.Need-or-else-requires-9
 or-else-requires-9 c κs = search needs
+
+sound-requires : tie.Need-sound-requires
+sound-requires c κs = search needs
+
+or-else-requires-10 : tie.Need-or-else-requires-10
+or-else-requires-10 c κs = search needs
 
 returns : tie.Need-returns
 unfolding codeOf
@@ -69,23 +75,26 @@ returns c =
     let from-hold = from-5 .before .before in
     let from-3 = from-hold .before .before in
     let from-11 = from-3 .before .before in
-    let from-4 = from-11 .before .before in
+    let from-10 = from-11 .before .before in
+    let from-4 = from-10 .before .before in
     let from-6 = from-4 .before .before in
     simp (
-      from-9 .or-else9 .ensures,
+      from-9 .or-else10 .ensures,
       from-9 .before .sound .ensures,
-      from-1 .or-else8 .ensures,
+      from-1 .or-else9 .ensures,
       from-1 .before .is-unknown .ensures,
-      from-2 .or-else7 .ensures,
+      from-2 .or-else8 .ensures,
       from-2 .before .has-no-register .ensures,
-      from-5 .or-else6 .ensures,
+      from-5 .or-else7 .ensures,
       from-5 .before .is-too-large .ensures,
-      from-hold .or-else5 .ensures,
+      from-hold .or-else6 .ensures,
       from-hold .before .is-held .ensures,
-      from-3 .or-else4 .ensures,
+      from-3 .or-else5 .ensures,
       from-3 .before .is-read-only .ensures,
-      from-11 .or-else3 .ensures,
+      from-11 .or-else4 .ensures,
       from-11 .before .has-no-byte .ensures,
+      from-10 .or-else3 .ensures,
+      from-10 .before .has-no-room .ensures,
       from-4 .or-else2 .ensures,
       from-4 .before .is-later .ensures,
       from-6 .or-else .ensures,
@@ -100,18 +109,20 @@ code-of-spec =
     or-else-requires
     is-later-requires
     or-else-requires-2
-    has-no-byte-requires
+    has-no-room-requires
     or-else-requires-3
-    is-read-only-requires
+    has-no-byte-requires
     or-else-requires-4
-    is-held-requires
+    is-read-only-requires
     or-else-requires-5
-    is-too-large-requires
+    is-held-requires
     or-else-requires-6
-    has-no-register-requires
+    is-too-large-requires
     or-else-requires-7
-    is-unknown-requires
+    has-no-register-requires
     or-else-requires-8
-    sound-requires
+    is-unknown-requires
     or-else-requires-9
+    sound-requires
+    or-else-requires-10
     returns)

@@ -9,7 +9,7 @@ use Rattle.basics.proofs.Truth.{all5, same}
 use Rattle.rules.specs.declared.Device.{Device}
 use Rattle.rules.specs.declared.Event.{Event}
 use Rattle.rules.specs.Record.{patternAt, transferAt}
-use Rattle.rules.specs.Handshakes.{handshakes, irfOf}
+use Rattle.rules.specs.Handshakes.{inputs, irfOf}
 use Rattle.rules.specs.Access.{readsByte}
 use Rattle.rules.specs.Events.{isR, noByte}
 use borrow.Author.Needs.{needs}
@@ -25,12 +25,12 @@ inside c =
 -- the definition with its tests in the code's order
 tested : (d : Device) (e : Event)
     → noByte d e
-    ≡ ((isR e && leb 0x0D (e .a) && leb (e .a) 0x0E) && (handshakes (patternAt d (e .a - 0x0D)) && eqb (transferAt d (e .a - 0x0D) .bytes) 0))
+    ≡ ((isR e && leb 0x0D (e .a) && leb (e .a) 0x0E) && (inputs (patternAt d (e .a - 0x0D)) && eqb (transferAt d (e .a - 0x0D) .bytes) 0))
 unfolding noByte readsByte irfOf
 tested d e =
     same _ _
     (all5 (λ r x y h z. Bool·beq (r && (x && y && h) && not (h && not z)) ((r && x && y) && (h && z))) tt
-    (isR e) (leb 0x0D (e .a)) (leb (e .a) 0x0E) (handshakes (patternAt d (e .a - 0x0D))) (eqb (transferAt d (e .a - 0x0D) .bytes) 0))
+    (isR e) (leb 0x0D (e .a)) (leb (e .a) 0x0E) (inputs (patternAt d (e .a - 0x0D))) (eqb (transferAt d (e .a - 0x0D) .bytes) 0))
 
 sub-p : tie.Need-sub-p
 sub-p c = let h = inside (c .before) in omega arith
@@ -38,14 +38,14 @@ sub-p c = let h = inside (c .before) in omega arith
 cast-p : tie.Need-cast-p
 cast-p c = search needs
 
-mul-handshakes : tie.Need-mul-handshakes
-mul-handshakes c = search needs
+mul-inputs : tie.Need-mul-inputs
+mul-inputs c = search needs
 
-element-copy-out-handshakes : tie.Need-element-copy-out-handshakes
-element-copy-out-handshakes c = let h = inside (c .before) in omega arith
+element-copy-out-inputs : tie.Need-element-copy-out-inputs
+element-copy-out-inputs c = let h = inside (c .before) in omega arith
 
-handshakes-requires : tie.Need-handshakes-requires
-handshakes-requires c κs = search needs
+inputs-requires : tie.Need-inputs-requires
+inputs-requires c κs = search needs
 
 mul-result : tie.Need-mul-result
 mul-result c = search needs
@@ -54,7 +54,7 @@ element-copy-out-result : tie.Need-element-copy-out-result
 element-copy-out-result c = let h = inside (c .before .before .before) in omega arith
 
 returns : tie.Need-returns
-returns c = simp (tested, c .before .before .before .if1 .taken, c .handshakes .ensures)
+returns c = simp (tested, c .before .before .before .if1 .taken, c .inputs .ensures)
 
 returns-2 : tie.Need-returns-2
 returns-2 c = simp (tested, c .if1 .left)
@@ -65,9 +65,9 @@ has-no-byte-spec =
     (tie.spec
     sub-p
     cast-p
-    mul-handshakes
-    element-copy-out-handshakes
-    handshakes-requires
+    mul-inputs
+    element-copy-out-inputs
+    inputs-requires
     mul-result
     element-copy-out-result
     returns

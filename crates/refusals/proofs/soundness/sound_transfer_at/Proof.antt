@@ -1,6 +1,6 @@
+use borrow.Author.Needs.{needs}
 use native.Mathlib.Nat.{mod-eq-of-lt}
 use Rattle.rules.specs.Sound.{soundTransferAt}
-use borrow.Author.Needs.{needs}
 use Rattle.refusals.proofs.soundness.sound_transfer_at.Statement.{statement}
 use Rattle.refusals.proofs.soundness.sound_transfer_at.Tie as tie
 
@@ -28,6 +28,12 @@ mul-sound-transfer-2 c = search needs
 element-copy-out-sound-transfer-2 : tie.Need-element-copy-out-sound-transfer-2
 element-copy-out-sound-transfer-2 c = search needs
 
+mul-sound-transfer-3 : tie.Need-mul-sound-transfer-3
+mul-sound-transfer-3 c = search needs
+
+element-copy-out-sound-transfer-3 : tie.Need-element-copy-out-sound-transfer-3
+element-copy-out-sound-transfer-3 c = search needs
+
 sound-transfer-requires : tie.Need-sound-transfer-requires
 sound-transfer-requires c κs = search needs
 
@@ -50,5 +56,7 @@ sound-transfer-at-spec =
     element-copy-out-sound-transfer
     mul-sound-transfer-2
     element-copy-out-sound-transfer-2
+    mul-sound-transfer-3
+    element-copy-out-sound-transfer-3
     sound-transfer-requires
     returns)
