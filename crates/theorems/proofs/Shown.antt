@@ -34,7 +34,7 @@ inactive-by d p false e z = simp (e, z)
 pub disabled-inactive : (d : Device) (p : ℕ) → portEnabled d p ≡ false → shownAt d p ≡ not (inputs (patternAt d p))
 disabled-inactive d p z = inactive-by d p _ refl z
 
-no-bit : (k : ℕ) → k < 8 → bit 0 k ≡ false
+pub no-bit : (k : ℕ) → k < 8 → bit 0 k ≡ false
 no-bit k l = same _ false (below (λ k. Bool·beq (bit 0 k) false) 8 tt k l)
 
 -- R of the data of a port that is no input port with handshake

@@ -120,7 +120,7 @@ pair-sound t v h =
     }
 
 -- ---- a byte comes, or goes, in a port with pattern q, output register o and source s, which leaves the register o′
-two-deep : (q : Pattern) → depth q ≤ 2
+pub two-deep : (q : Pattern) → depth q ≤ 2
 unfolding depth
 two-deep q = by-test (λ n. n ≤ 2) (sb q) 1 2 (λ _. omega arith) (λ _. omega arith)
 
