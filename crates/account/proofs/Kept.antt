@@ -1,7 +1,7 @@
 -- What of a port the parts of an event leave as it is.
 -- Assumes nothing.
 use Prim.Native.Nat.{ℕ, _<_}
-use mathlib.Core.Path.{_≡_, refl, ap, _∙_}
+use mathlib.Core.Path.{_≡_, refl, sym, ap, _∙_}
 use mathlib.Core.Bool.{Bool, true, false, _&&_, cond}
 use mathlib.Core.List.{List}
 use native.Mathlib.Omega.{arith}
@@ -17,6 +17,7 @@ use Rattle.rules.specs.With.{withPair, withOutput, withPhase}
 use Rattle.rules.specs.Record.{Shaped, portAt, patternAt, transferAt, bare, blank, vacant}
 use Rattle.rules.specs.Registers.{portOn, portEnabled}
 use Rattle.rules.specs.Handshakes.{inputs, ackinAt}
+use Rattle.rules.specs.Interrupts.{relined}
 use Rattle.rules.specs.Moves.{heldAt, putAt, worksAt, falls, takenAt, leftAt, movesAt, movesOf, givenAt, storedAt}
 use Rattle.rules.specs.Step.{stepOf, ranOf}
 use Rattle.basics.proofs.Tests.{by-test}
@@ -25,6 +26,8 @@ use Rattle.theorems.proofs.Frame.{Frame, frame-step}
 use Rattle.theorems.proofs.Reports.{ran-keeps}
 use Rattle.theorems.proofs.Bytes.{bytes-stay}
 use Rattle.theorems.proofs.Shapes.{moves-at-shaped}
+use Rattle.account.specs.Account.{heldOf}
+use Rattle.account.proofs.Held.{inside}
 
 -- port p of e is set up and enabled as that of d
 pub record SetUp (p : ℕ) (d e : Device) : Type 0 where
@@ -211,6 +214,33 @@ moves-around d0 d1 k =
     })
 
 -- and so is the step
+-- the lines that are stored after an event are no part of it
+pub relined-alike : (d : Device) → Alike d (relined d)
+unfolding relined
+relined-alike d = alike-same d (relined d) refl refl refl
+
+pub relined-transfer : (d : Device) (p : ℕ) → transferAt (relined d) p ≡ transferAt d p
+unfolding relined
+relined-transfer d p = refl
+
+pub relined-given : (d : Device) (q : ℕ) → Alike d (relined (givenAt d q))
+relined-given d q = alike-trans (given-alike d q) (relined-alike (givenAt d q))
+
+pub relined-held : (d : Device) (p : ℕ) → heldOf d p ≡ heldOf (relined d) p
+unfolding heldOf
+relined-held d p = ap inside (sym (relined-transfer d p))
+
+pub relined-around : {p : ℕ} {d0 d1 f : Device} → Around p d0 d1 f → Around p d0 d1 (relined f)
+relined-around {p} {d0} {d1} {f} a =
+    record {
+      meets = a .meets;
+      shaped = a .shaped;
+      before = a .before;
+      found = a .found;
+      later = alike-trans (a .later) (relined-alike f);
+      left = relined-transfer f p ∙ a .left;
+    }
+
 pub step-around : (d0 d1 : Device) → Shaped d1 → (p : ℕ) → p < 2 → Around p d0 d1 (stepOf false d0 (movesOf d0 d1) .device)
 step-around d0 d1 k p l =
     let a = moves-around d0 d1 k p l in

@@ -16,6 +16,7 @@ use Rattle.rules.specs.Record.{patternAt, transferAt}
 use Rattle.rules.specs.Registers.{kindOf}
 use Rattle.rules.specs.Handshakes.{inputs, irfAt}
 use Rattle.rules.specs.PortData.{dataAt}
+use Rattle.rules.specs.Interrupts.{relined}
 use Rattle.rules.specs.Moves.{givenAt}
 use Rattle.rules.specs.Access.{readOf, readsByte, afterRead}
 use Rattle.rules.specs.Events.{isR, noByte, effect, readEffect}
@@ -68,7 +69,7 @@ module _ (p : ℕ) (l : p < 2) (d : Device) (h : Standing p d) (e : Event) (take
     reads = simp (r, eq-eqb (e .a) (0x0D + p) read-place, taken, value-by p d e taken _ read-is, front)
 
     given-turn : Turn p d e
-    given-turn = gives input-port some (after-by p d e taken _ read-is ∙ given) reads
+    given-turn = gives input-port some (after-by p d e taken _ read-is ∙ ap relined given) reads
 
   -- of anything else
   module _ (z : (e .a == 0x0D + p && inputs q) ≡ false) where

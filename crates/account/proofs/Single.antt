@@ -12,14 +12,14 @@ use Rattle.rules.specs.declared.Event.{Event}
 use Rattle.rules.specs.declared.Pattern.{Pattern}
 use Rattle.rules.specs.Record.{Shaped, patternAt, transferAt}
 use Rattle.rules.specs.Handshakes.{inputs, outputs, handshakes, depth, irfOf, irfAt, oreOf, oreAt, ackinAt}
-use Rattle.rules.specs.Moves.{falls, storedAt}
+use Rattle.rules.specs.Moves.{falls, storedAt, givenAt}
 use Rattle.rules.specs.Sound.{soundOf}
 use Rattle.basics.proofs.Tests.{right, not-so, never}
 use Rattle.theorems.proofs.Parts.{no-input}
 use Rattle.theorems.proofs.TransferLaws.{two-deep}
 use Rattle.account.specs.Account.{lineAt, acknowledges, after, writtenBy, acknowledgedBy, strobedBy, readBy, heldOf, HoldsBytes}
 use Rattle.account.proofs.Held.{inside}
-use Rattle.account.proofs.Kept.{SetUp, Alike, alike-trans, alike-set-up, moves-alike, stored-alike, given-alike, Around}
+use Rattle.account.proofs.Kept.{SetUp, Alike, alike-trans, alike-set-up, moves-alike, stored-alike, relined-given, relined-held, Around}
 use Rattle.account.proofs.Lines.{no-rise, ackin-alike, unacknowledged}
 use Rattle.account.proofs.Moved.{two-held, stored-held, given-held, still-held}
 use Rattle.account.proofs.Stepped.{set-up-now, step-out, step-in}
@@ -103,9 +103,9 @@ module _ (p : ℕ) (l : p < 2) (d : Device) (k : Shaped d) (s : soundOf d ≡ tr
         step-in p l d d1 e shaken-in kept a k i ∙ ap (λ (m : List ℕ). m ++ heldOf (after d e) p) (sym (quiet .read i))
     in-turn (stores o room small a w) = never (no-input q o) i
     in-turn (gives _ some given w) =
-        let a = subst (λ (f : Device). Alike d f) (sym given) (given-alike d p) in
+        let a = subst (λ (f : Device). Alike d f) (sym given) (relined-given d p) in
         ap (λ (m : List ℕ). heldOf d p ++ m) (none-strobed p l d e shaken-in a) ∙ append-nil (heldOf d p)
-        ∙ given-held d k p l (two-held d s p l) (some-in some) ∙ ap₂ _++_ (sym w) (ap (λ (f : Device). heldOf f p) (sym given))
+        ∙ given-held d k p l (two-held d s p l) (some-in some) ∙ ap₂ _++_ (sym w) (relined-held (givenAt d p) p ∙ ap (λ (f : Device). heldOf f p) (sym given))
 
 -- ---- and the port stays set up and enabled
 pub set-up-after : (p : ℕ) → p < 2 → (d : Device) → Shaped d → handshakes (patternAt d p) ≡ true → (e : Event) → Turn p d e
@@ -113,4 +113,4 @@ pub set-up-after : (p : ℕ) → p < 2 → (d : Device) → Shaped d → handsha
 set-up-after p l d k shaken e (rests a t quiet) = alike-set-up p a
 set-up-after p l d k shaken e (steps d1 kept a quiet) = set-up-now p l d d1 e shaken kept a
 set-up-after p l d k shaken e (stores o room small a w) = alike-set-up p (stored-on p l d e shaken (e .b) k a)
-set-up-after p l d k shaken e (gives i some given w) = subst (SetUp p d) (sym given) (alike-set-up p (given-alike d p))
+set-up-after p l d k shaken e (gives i some given w) = subst (SetUp p d) (sym given) (alike-set-up p (relined-given d p))

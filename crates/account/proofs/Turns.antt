@@ -19,15 +19,16 @@ use Rattle.rules.specs.Handshakes.{inputs, outputs, handshakes, irfAt, oreAt}
 use Rattle.rules.specs.Moves.{movesOf, givenAt, storedAt}
 use Rattle.rules.specs.Step.{stepOf}
 use Rattle.rules.specs.Sound.{soundOf}
+use Rattle.rules.specs.Interrupts.{relined}
 use Rattle.rules.specs.Events.{isW, isR, codeOf, effect}
-use Rattle.rules.specs.Events.{effectOf, answerOf, outcomeOf, eventOf}
+use Rattle.rules.specs.Events.{effectOf, relit, answerOf, outcomeOf, eventOf}
 use Rattle.basics.proofs.Tests.{so-both}
 use Rattle.basics.proofs.Places.{each2}
 use Rattle.theorems.proofs.Parts.{handshake-awake}
 use Rattle.theorems.proofs.Clauses.{sound-parts}
 use Rattle.theorems.proofs.Refusals.{code-is, refused-keeps}
 use Rattle.account.specs.Account.{after, accepted, writtenBy, readBy}
-use Rattle.account.proofs.Kept.{Kept, Alike, alike-refl, Around, step-around}
+use Rattle.account.proofs.Kept.{Kept, Alike, alike-refl, alike-trans, Around, step-around, relined-alike, relined-transfer, relined-around}
 
 -- by a test, and by its value
 pub either : {C : Type 0} (t : Bool) → (So t → C) → (t ≡ false → C) → C
@@ -44,7 +45,7 @@ pub data Turn (p : ℕ) (d : Device) (e : Event) : Type 0 where
   steps : (d1 : Device) → Kept p d d1 → Around p d d1 (after d e) → Quiet p d e → Turn p d e
   stores : So (outputs (patternAt d p)) → So (oreAt d p) → e .b < 256 → Around p d (storedAt d p (e .b)) (after d e)
       → writtenBy p d e ≡ e .b ∷ [] → Turn p d e
-  gives : So (inputs (patternAt d p)) → So (irfAt d p) → after d e ≡ givenAt d p → readBy p d e ≡ transferAt d p .front ∷ [] → Turn p d e
+  gives : So (inputs (patternAt d p)) → So (irfAt d p) → after d e ≡ relined (givenAt d p) → readBy p d e ≡ transferAt d p .front ∷ [] → Turn p d e
 
 -- ---- refused, or no write and no read
 module _ (p : ℕ) (d : Device) (e : Event) where
@@ -94,25 +95,26 @@ module _ (p : ℕ) (d : Device) (e : Event) (taken : accepted d e ≡ true) wher
   pub code : codeOf d e ≡ 0
   code = sym (code-is d e) ∙ eqb-true (eventOf d e .answer .code) 0 taken
 
-  outcome : eventOf d e ≡ outcomeOf 0 (effectOf d e)
+  outcome : eventOf d e ≡ outcomeOf 0 (relit (effectOf d e))
   unfolding eventOf
   outcome = simp code
 
   -- the record and the value, where the effect is known
-  pub after-by : (r : Effect) → effectOf d e ≡ r → after d e ≡ r .device
-  unfolding outcomeOf
-  after-by r q = ap (λ (o : Outcome). o .device) outcome ∙ ap (λ (r : Effect). r .device) q
+  pub after-by : (r : Effect) → effectOf d e ≡ r → after d e ≡ relined (r .device)
+  unfolding outcomeOf relit
+  after-by r q = ap (λ (o : Outcome). o .device) outcome ∙ ap (λ (r : Effect). relined (r .device)) q
 
   pub value-by : (r : Effect) → effectOf d e ≡ r → eventOf d e .answer .value ≡ r .value
-  unfolding outcomeOf answerOf
+  unfolding outcomeOf answerOf relit
   value-by r q = ap (λ (o : Outcome). o .answer .value) outcome ∙ ap (λ (r : Effect). r .value) q
 
   pub rests-by : (r : Effect) → effectOf d e ≡ r → Alike d (r .device) → transferAt (r .device) p ≡ transferAt d p → Quiet p d e
       → Turn p d e
   rests-by r q a t quiet =
       let f = after-by r q in
-      rests (subst (λ (f : Device). Alike d f) (sym f) a) (ap (λ (f : Device). transferAt f p) f ∙ t) quiet
+      rests (subst (λ (f : Device). Alike d f) (sym f) (alike-trans a (relined-alike (r .device))))
+      (ap (λ (f : Device). transferAt f p) f ∙ relined-transfer (r .device) p ∙ t) quiet
 
   pub around-by : p < 2 → (d1 : Device) → Shaped d1 → effectOf d e ≡ effect (stepOf false d (movesOf d d1) .device) 0
       → Around p d d1 (after d e)
-  around-by l d1 k1 q = subst (λ (f : Device). Around p d d1 f) (sym (after-by _ q)) (step-around d d1 k1 p l)
+  around-by l d1 k1 q = subst (λ (f : Device). Around p d d1 f) (sym (after-by _ q)) (relined-around (step-around d d1 k1 p l))

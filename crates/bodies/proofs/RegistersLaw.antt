@@ -14,7 +14,7 @@ use Rattle.rules.specs.declared.Pattern.{Pattern}
 use Rattle.rules.specs.declared.Device.{Device}
 use Rattle.basics.specs.Byte.{bit, byteIn}
 use Rattle.rules.specs.With.{device, withHidden, withCount, withHalf, withPulse, withOutside, withCatcher, withIoe, withPmf, withPatterns, withCounters, withSources}
-use Rattle.rules.specs.Record.{vacant, vectorAt, portAt, patternAt, transferAt, counterAt, sourceAt}
+use Rattle.rules.specs.Record.{vacant, silent, vectorAt, portAt, patternAt, transferAt, counterAt, sourceAt}
 use Rattle.rules.specs.Registers.{kindOf, kindIn, portKind, statusOf, portCommandOf, counterCommandOf}
 use Rattle.rules.specs.Handshakes.{irfOf, irfAt, oreOf, oreAt}
 use Rattle.rules.specs.Access.{portCommand, counterCommand, readOf}
@@ -45,7 +45,7 @@ registersTold n d =
     (pinless (portAt d 0) ∷ pinless (portAt d 1) ∷ pinless (portAt d 2) ∷ []) (patternAt d 0 ∷ patternAt d 1 ∷ [])
     (vacant ∷ vacant ∷ []) (countless (counterAt d 0) ∷ countless (counterAt d 1) ∷ countless (counterAt d 2) ∷ [])
     (unhidden (sourceAt d 0) ∷ unhidden (sourceAt d 1) ∷ unhidden (sourceAt d 2) ∷ unhidden (sourceAt d 3) ∷ unhidden (sourceAt d 4) ∷ [])
-    false false
+    false false (silent false)
 
 -- ---- the bytes of one source, pattern and counter, read back
 port-source : (s : Source) (q : Pattern) (o f : Bool) → sourceIn (portCommandOf s q o f) ≡ unhidden s

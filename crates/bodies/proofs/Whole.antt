@@ -2,7 +2,7 @@
 -- Assumes nothing.
 use Prim.Native.Nat.{ℕ, _+_, _≤_}
 use mathlib.Core.Path.{_≡_, refl, sym, ap, ap₂, subst, _∙_}
-use mathlib.Core.Bool.{Bool, true, _&&_}
+use mathlib.Core.Bool.{Bool, true, false, _&&_}
 use mathlib.Core.List.{List, [], _∷_, _++_}
 use mathlib.Core.Logic.{_⊎_, inl, inr}
 use native.Mathlib.Omega.{arith}
@@ -15,10 +15,14 @@ use Rattle.rules.specs.declared.Port.{Port}
 use Rattle.rules.specs.declared.Pattern.{Pattern}
 use Rattle.rules.specs.declared.Transfer.{Transfer}
 use Rattle.rules.specs.declared.Device.{Device}
-use Rattle.rules.specs.With.{device, withTransfers, withCounters, withSources}
-use Rattle.rules.specs.Record.{Shaped, bare, blank, vacant, idle, quiet}
+use Rattle.rules.specs.With.{device, withTransfers, withCounters, withSources, withLines}
+use Rattle.rules.specs.Record.{Shaped, bare, blank, vacant, silent, idle, quiet}
+use Rattle.rules.specs.Interrupts.{firstOf, first, served, pending, requests, requester, intOf, ieoOf, placeOf, linesOf, relined}
+use Rattle.rules.specs.Registers.{kindOf, kindIn, portKind}
+use Rattle.rules.specs.Access.{portCommand, counterCommand, readOf}
 use Rattle.bodies.specs.Layout.{Layout, layout1, layout2, layoutOf, layoutIn, contentsLen, offsetOf, sizeOf, lengthOf, contentsOf, bodyIn}
-use Rattle.bodies.specs.Written.{registersFrom, registersBody, countsBody, pinsBody, linesBody, transfersBody, bodiesFrom, imageOf}
+use Rattle.bodies.specs.declared.Bodies.{Bodies}
+use Rattle.bodies.specs.Written.{savedByte, registersFrom, registersBody, flagsOf, countsBody, hiddenOf, pinsBody, linesBody, transfersBody, bodiesOf, bodiesFrom, imageOf}
 use Rattle.bodies.specs.Taken.{Bytes, registersIn, countsIn, pinsIn, linesIn, transfersIn, recordIn, deviceIn}
 use Rattle.bodies.specs.Taken.{registersClear, countsClear, pinsClear, linesClear, transfersClear, unusedClear, statesAgree, clearIn}
 use Rattle.basics.proofs.Tests.{by-test}
@@ -128,32 +132,48 @@ image-clear d v =
     (t .0))
     (ap (λ (b : List ℕ). statesAgree b (bodyIn (layoutOf d) 5 (imageOf d))) (body-1 d) ∙ states-agree d (bodyIn (layoutOf d) 5 (imageOf d)) (t .1))
 
--- the bodies and the version tell the whole record
-all-told : (d : Device) → Shaped d → transfersTold (linesTold (pinsTold (countsTold (registersTold (d .version) d) d) d) d) d ≡ d
+-- a record without its stored lines, which are worked out from the rest
+abbrev unlit : Device → Device
+unlit d = withLines d (silent false)
+
+blind : (d : Device) → relined (unlit d) ≡ relined d
+unfolding relined linesOf intOf ieoOf placeOf requester first firstOf requests pending served
+blind d = refl
+
+-- they stand in no body
+unwritten : (d : Device) → bodiesOf (relined d) ≡ bodiesOf d
+unfolding relined registersBody registersFrom savedByte readOf kindOf kindIn portKind portCommand counterCommand countsBody flagsOf pinsBody hiddenOf linesBody transfersBody
+unwritten d = refl
+
+-- the bodies and the version tell the whole record but its stored lines
+all-told : (d : Device) → Shaped d → transfersTold (linesTold (pinsTold (countsTold (registersTold (d .version) d) d) d) d) d ≡ unlit d
 all-told d f =
     let told = transfersTold (linesTold (pinsTold (countsTold (registersTold (d .version) d) d) d) d) d in
     ap₃ (λ (vs : List ℕ) (ps : List Port) (qs : List Pattern).
-    device (d .version) (d .master) (d .config) vs ps qs (told .transfers) (told .counters) (told .sources) (d .iei) (d .phase))
+    device (d .version) (d .master) (d .config) vs ps qs (told .transfers) (told .counters) (told .sources) (d .iei) (d .phase) (silent false))
     (sym (three 0 (d .vectors) (f .vectors))) (sym (three (bare 0) (d .ports) (f .ports))) (sym (two blank (d .patterns) (f .patterns)))
-    ∙ ap₃ (λ (ts : List Transfer) (cs : List Counter) (ss : List Source). withSources (withCounters (withTransfers d ts) cs) ss)
+    ∙ ap₃ (λ (ts : List Transfer) (cs : List Counter) (ss : List Source). withSources (withCounters (withTransfers (unlit d) ts) cs) ss)
     (sym (two vacant (d .transfers) (f .transfers))) (sym (three idle (d .counters) (f .counters))) (sym (five quiet (d .sources) (f .sources)))
 
-pub read-back : (d : Device) → Shaped d → Versioned d → deviceIn (layoutOf d) (imageOf d) ≡ d
+-- so it is read back with its lines worked out
+pub read-back : (d : Device) → Shaped d → Versioned d → deviceIn (layoutOf d) (imageOf d) ≡ relined d
 unfolding deviceIn recordIn
 read-back d f v =
     let b = bodyIn (layoutOf d) 5 (imageOf d) in
     let n = d .version in
     (simp (version-told d v, body-1 d, body-2 d, body-3 d, body-4 d))
-    ∙ ap (λ (r : Device). transfersIn (linesIn (pinsIn (countsIn r (countsBody d)) (pinsBody d)) (linesBody d)) b) (registers-read n d)
+    ∙ ap relined
+    (ap (λ (r : Device). transfersIn (linesIn (pinsIn (countsIn r (countsBody d)) (pinsBody d)) (linesBody d)) b) (registers-read n d)
     ∙ ap (λ (r : Device). transfersIn (linesIn (pinsIn r (pinsBody d)) (linesBody d)) b) (counts-read (registersTold n d) d)
     ∙ ap (λ (r : Device). transfersIn (linesIn r (linesBody d)) b) (pins-read (countsTold (registersTold n d) d) d)
     ∙ ap (λ (r : Device). transfersIn r b) (lines-read (pinsTold (countsTold (registersTold n d) d) d) d)
     ∙ transfers-read b (linesTold (pinsTold (countsTold (registersTold n d) d) d) d) d (fifth d v .1)
-    ∙ all-told d f
+    ∙ all-told d f)
+    ∙ blind d
 
 -- a record that was read has the lengths of the struct
 pub shaped : (l : Layout) (s : List ℕ) → Shaped (deviceIn l s)
-unfolding deviceIn recordIn transfersIn linesIn pinsIn countsIn registersIn
+unfolding deviceIn recordIn relined transfersIn linesIn pinsIn countsIn registersIn
 shaped l s = record { vectors = refl; ports = refl; patterns = refl; transfers = refl; counters = refl; sources = refl }
 
 -- ---- what was read is written back: each body of its length
@@ -181,28 +201,36 @@ module _ (l : Layout) (s : List ℕ) (h : Bytes s) (c : clearIn l s ≡ true) wh
   abbrev told-3 : Device
   told-3 = pinsIn told-2 (body 3)
 
-  first : deviceIn l s ≡ linesIn told-3 (body 4)
+  abbrev told-4 : Device
+  told-4 = linesIn told-3 (body 4)
+
+  in-order : deviceIn l s ≡ relined told-4
   unfolding deviceIn recordIn transfersIn linesIn pinsIn countsIn
-  first = refl
+  in-order = refl
+
+  -- whose lines, worked out, stand in none of them
+  told : bodiesOf (deviceIn l s) ≡ bodiesOf told-4
+  told = ap bodiesOf in-order ∙ unwritten told-4
 
   kept-1 : length (body 1) ≡ 48 → registersBody (deviceIn l s) ≡ body 1
   kept-1 n =
-      ap registersBody first ∙ lines-apart-1 told-3 (body 4) ∙ pins-apart-1 told-2 (body 3) ∙ counts-apart told-1 (body 2)
+      ap (λ (b : Bodies). b .registers) told ∙ lines-apart-1 told-3 (body 4) ∙ pins-apart-1 told-2 (body 3) ∙ counts-apart told-1 (body 2)
       ∙ registers-written (l .version) (body 1) (body 5) (clear .0) (clear .5) n (bytes 1)
 
   kept-2 : length (body 2) ≡ 9 → countsBody (deviceIn l s) ≡ body 2
   kept-2 n =
-      ap countsBody first ∙ lines-apart-2 told-3 (body 4) ∙ pins-apart-2 told-2 (body 3) ∙ counts-written told-1 (body 2) n (bytes 2) (clear .1)
+      ap (λ (b : Bodies). b .counts) told ∙ lines-apart-2 told-3 (body 4) ∙ pins-apart-2 told-2 (body 3)
+      ∙ counts-written told-1 (body 2) n (bytes 2) (clear .1)
 
   kept-3 : length (body 3) ≡ 7 → pinsBody (deviceIn l s) ≡ body 3
-  kept-3 n = ap pinsBody first ∙ lines-apart-3 told-3 (body 4) ∙ pins-written told-2 (body 3) n (bytes 3) (clear .2)
+  kept-3 n = ap (λ (b : Bodies). b .pins) told ∙ lines-apart-3 told-3 (body 4) ∙ pins-written told-2 (body 3) n (bytes 3) (clear .2)
 
   kept-4 : length (body 4) ≡ 2 → linesBody (deviceIn l s) ≡ body 4
-  kept-4 n = ap linesBody first ∙ lines-written told-3 (body 4) n (bytes 4) (clear .3)
+  kept-4 n = ap (λ (b : Bodies). b .lines) told ∙ lines-written told-3 (body 4) n (bytes 4) (clear .3)
 
   kept-5 : length (body 5) ≡ 8 → transfersBody (deviceIn l s) ≡ body 5
   unfolding deviceIn recordIn
-  kept-5 n = transfers-written _ (body 5) n (bytes 5) (clear .4)
+  kept-5 n = ap (λ (b : Bodies). b .transfers) (unwritten _) ∙ transfers-written _ (body 5) n (bytes 5) (clear .4)
 
   -- a body that stands in the image is whole
   whole : (id : ℕ) → offsetOf l id + sizeOf l id ≤ length s → length (body id) ≡ sizeOf l id
@@ -235,7 +263,7 @@ kept-new s h c n =
 
 -- the record that is read has the version of the image, so it is written in that layout
 layout-kept : (s : List ℕ) → layoutOf (deviceIn (layoutIn s) s) ≡ layoutIn s
-unfolding layoutOf deviceIn recordIn transfersIn linesIn pinsIn countsIn registersIn
+unfolding layoutOf deviceIn recordIn relined transfersIn linesIn pinsIn countsIn registersIn
 layout-kept s = of-image (λ l. layoutOf (deviceIn l s) ≡ l) refl refl s
 
 pub written-back : (s : List ℕ) → length s ≡ lengthOf (layoutIn s) → Bytes s → clearIn (layoutIn s) s ≡ true

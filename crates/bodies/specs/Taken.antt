@@ -15,7 +15,8 @@ use Rattle.rules.specs.declared.Pattern.{Pattern}
 use Rattle.rules.specs.declared.Transfer.{Transfer}
 use Rattle.rules.specs.Handshakes.{irfOf, oreOf}
 use Rattle.rules.specs.declared.Device.{Device}
-use Rattle.rules.specs.Record.{bare, vacant, quiet, counterAt}
+use Rattle.rules.specs.Record.{bare, vacant, silent, quiet, counterAt}
+use Rattle.rules.specs.Interrupts.{relined}
 use Rattle.rules.specs.With.{transfer, withHidden, withCount, withHalf, withPulse, withOutside, withCatcher, withPorts, withTransfers, withCounters, withSources, withIei, withPhase}
 use Rattle.bodies.specs.Layout.{Layout, bodyIn}
 
@@ -98,6 +99,7 @@ registersIn version b =
       sources = sourcesIn b;
       iei = false;
       phase = false;
+      lines = silent false;
     }
 
 -- ---- body 2
@@ -175,10 +177,11 @@ linesClear b = ltb (byteAt b 0) 2 && ltb (byteAt b 1) 2
 abbrev pub transfersClear : List ℕ → Bool
 transfersClear b = ltb (byteAt b 3) 4 && ltb (byteAt b 7) 4
 
--- ---- the five together: the record that they tell, and whether all their unused bits are 0
+-- ---- the five together: the record that they tell, and whether all their unused bits are 0. Paper 02, W-208: the stored lines "aren't
+-- in the image; restore works them out".
 unfoldable pub recordIn : ℕ → List ℕ → List ℕ → List ℕ → List ℕ → List ℕ → Device
 recordIn version registers counts pins lines transfers =
-    transfersIn (linesIn (pinsIn (countsIn (registersIn version registers) counts) pins) lines) transfers
+    relined (transfersIn (linesIn (pinsIn (countsIn (registersIn version registers) counts) pins) lines) transfers)
 
 unfoldable pub unusedClear : List ℕ → List ℕ → List ℕ → List ℕ → List ℕ → Bool
 unusedClear registers counts pins lines transfers =

@@ -13,6 +13,7 @@ use Rattle.rules.specs.declared.Transfer.{Transfer}
 use Rattle.rules.specs.Record.{Shaped, patternAt, transferAt}
 use Rattle.rules.specs.Registers.{portEnabled}
 use Rattle.rules.specs.Handshakes.{inputs, outputs}
+use Rattle.rules.specs.Interrupts.{relined}
 use Rattle.rules.specs.Sound.{soundOf}
 use Rattle.theorems.specs.Traces.{recordAfter, Traced, cutBy}
 use Rattle.account.specs.Account.{writtenBy, acknowledgedBy, strobedBy, readBy, heldOf, HoldsBytes, over, overCut, stands}
@@ -57,7 +58,7 @@ module _ (buffer : List ℕ) (roomy : Roomy buffer) (p : ℕ) (two : p < 2) (d :
 -- ---- from any accepted image
 -- an image of bytes tells of bytes held
 told-transfer : (l : Layout) (s : List ℕ) (p : ℕ) → p < 2 → transferAt (deviceIn l s) p ≡ transferIn (bodyIn l 5 s) p
-unfolding deviceIn recordIn transfersIn
+unfolding deviceIn recordIn transfersIn relined
 told-transfer l s = each2 (λ p. transferAt (deviceIn l s) p ≡ transferIn (bodyIn l 5 s) p) refl refl
 
 pair-bytes : (a b : ℕ) → a < 256 → b < 256 → Bytes (a ∷ b ∷ [])

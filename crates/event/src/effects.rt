@@ -4,7 +4,7 @@ ghost use mathlib.Core.Bool.{not, _&&_};
 ghost use Rattle.basics.specs.Signs.{_==_};
 ghost use Rattle.rules.specs.Registers.{reset};
 ghost use Rattle.rules.specs.Report.{noReport};
-ghost use Rattle.rules.specs.Events.{codeOf, effect as plain, writeEffect, readEffect, outsideSet, pinsEffect, clocksEffect, acknowledgeEffect, ieiEffect, effectOf};
+ghost use Rattle.rules.specs.Events.{codeOf, effect as plain, writeEffect, readEffect, outsideSet, pinsEffect, clocksEffect, acknowledgeEffect, ieiEffect, effectOf, relit};
 use rules::Device;
 use rules::Effect;
 use rules::Event;
@@ -105,6 +105,19 @@ fn iei_effect(d: Device, v: u32) -> Effect
     let mut after = d;
     after.iei = v == 1;
     effect(after, 0)
+}
+
+// With the lines of its record worked out.
+pub(crate) fn relit(f: Effect) -> Effect
+    ensures { λ r. ⌜ r ≡ relit f ⌝ }
+{
+    let after = interrupts::relined(f.device);
+    let report = f.report;
+    Effect {
+        device: after,
+        value: f.value,
+        report: report,
+    }
 }
 
 // What an accepted event does.

@@ -43,8 +43,8 @@ fn outcome(code: u8, f: Effect) -> Outcome
             a: levels::pins_at(d, 0),
             b: levels::pins_at(d, 1),
             c: levels::pins_at(d, 2),
-            int: interrupts::int(d),
-            ieo: interrupts::ieo(d),
+            int: d.lines.int,
+            ieo: d.lines.ieo,
             report: report,
         },
     }
@@ -59,7 +59,7 @@ pub fn event(d: Device, e: Event) -> Outcome
         return unsound(d);
     }
     if code == 0 {
-        return outcome(0, effects::effect_of(d, e));
+        return outcome(0, effects::relit(effects::effect_of(d, e)));
     }
     outcome(code, effects::effect(d, 0))
 }

@@ -79,6 +79,11 @@ unfoldable pub expected : List Line → List Answer
 expected [] = []
 expected (l ∷ ls) = l .answer ∷ expected ls
 
+-- paper 02, W-208: the place that is stored after each of these events
+unfoldable pub placesEach : Device → List Line → List ℕ
+placesEach d [] = []
+placesEach d (l ∷ ls) = eventOf d (l .event) .device .lines .place ∷ placesEach (eventOf d (l .event) .device) ls
+
 -- every claim of a list is right, from the record d
 abbrev pub Right : Device → List (List Line) → Type 0
 Right d [] = Unit {0}

@@ -1,6 +1,7 @@
 -- Paper 01, "Examples, in timer clocks; P marks the proved set": P1 to P10, each as a trace from the fresh device; and some of paper 02.
 -- Two PCLK clocks are a timer clock. Counts are read at 10H-15H, IUS, IE, IP and ERR in D7-D4 of 0AH-0CH.
 -- Assumes nothing.
+use Prim.Native.Nat.{ℕ}
 use mathlib.Core.List.{List, [], _∷_}
 use Rattle.examples.specs.Claim.{X, W, R, P, T, K, says, Line, line, accepted, reads}
 
@@ -316,3 +317,8 @@ w206up =
     ∷ line (R 0x09) (says 0 0x28 0x00 0x42 0x2 0 1 0 0 0 0 0 0)
     ∷ line (P 0x00 0x00 0x1) (says 0 0x00 0x00 0x42 0x1 0 1 0 0 0 0 0 0)
     ∷ []
+
+-- Paper 02, W-208, "the highest requester's place in order": in P6 CT1 requests, then CT3. K serves CT3, and none requests, though both have
+-- IP; with CT3's bits cleared CT1 requests again.
+abbrev pub w208 : List ℕ
+w208 = 0 ∷ 0 ∷ 0 ∷ 5 ∷ 1 ∷ 0 ∷ 0 ∷ 0 ∷ 5 ∷ 5 ∷ []

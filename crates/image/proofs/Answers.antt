@@ -11,7 +11,9 @@ use lib.ListN.{length, take, drop, length-append, length-drop}
 use lib.Seq.{take-at, drop-at}
 use Rattle.rules.specs.declared.Device.{Device}
 use Rattle.rules.specs.Record.{freshOf}
+use Rattle.rules.specs.Interrupts.{linesOf}
 use Rattle.rules.specs.Sound.{soundOf}
+use Rattle.theorems.proofs.Stored.{sound-lines}
 use Rattle.bodies.specs.Layout.{layoutOf, layoutIn, lengthOf, contentsOf}
 use Rattle.bodies.specs.Written.{imageOf}
 use Rattle.bodies.specs.Taken.{clearIn}
@@ -19,7 +21,7 @@ use Rattle.basics.proofs.Tests.{both}
 use Rattle.bodies.proofs.Whole.{image-length}
 use Rattle.image.specs.Image.{saveCode, savedOf, acceptedOf, restoredIn, restoredOf}
 use Rattle.image.proofs.Agree.{alike}
-use Rattle.image.proofs.Codes.{restores, short, table, long, firstBytes, told, goodBodies, enough, restore-0, save-0}
+use Rattle.image.proofs.Codes.{restores, short, table, long, firstBytes, told, goodBodies, enough, restore-0, save-0, save-9}
 
 -- ---- restore
 pub record Accepted (s : List ℕ) : Type 0 where
@@ -57,13 +59,17 @@ fresh s h = failed (short s) (table s) (long s) (goodBodies s) (told s) h
 pub saved-sound : (d : Device) (n : ℕ) → saveCode d n ≡ 0 → soundOf d ≡ true
 saved-sound d n h = save-0 d n .0 h .0
 
+not-sound : (t : Bool) → (t ≡ true → ⊥) → t ≡ false
+not-sound true f = absurd (f refl)
+not-sound false f = refl
+
 -- only soundness refuses where the buffer is long enough
 pub unsound : (d : Device) → (saveCode d (lengthOf (layoutOf d)) ≡ 0 → ⊥) → soundOf d ≡ false
 unsound d h = not-sound (soundOf d) (λ s. h (save-0 d (lengthOf (layoutOf d)) .1 (s, omega arith)))
-  where
-    not-sound : (t : Bool) → (t ≡ true → ⊥) → t ≡ false
-    not-sound true f = absurd (f refl)
-    not-sound false f = refl
+
+-- paper 02, W-208: "A record whose stored lines are false is unsound, code 9"
+pub false-lines : (d : Device) (n : ℕ) → (d .lines ≡ linesOf d → ⊥) → saveCode d n ≡ 9
+false-lines d n f = save-9 d n .1 (not-sound (soundOf d) (λ s. f (sound-lines d s)))
 
 pub saved-whole : (d : Device) (e : List ℕ) → saveCode d (length e) ≡ 0 → savedOf d e ≡ imageOf d ++ drop (lengthOf (layoutOf d)) e
 unfolding savedOf

@@ -3,15 +3,18 @@
 -- device's struct has, its arrays' lengths, and `Bytes` what every slice of bytes has.
 -- Assumes nothing.
 use Prim.Native.Nat.{ℕ}
-use mathlib.Core.Path.{_≡_, sym, ap, subst, _∙_}
-use mathlib.Core.Bool.{true}
+use mathlib.Core.Path.{_≡_, refl, sym, ap, subst, _∙_}
+use mathlib.Core.Bool.{Bool, true, false}
 use mathlib.Core.List.{List}
 use native.Mathlib.Omega.{arith}
-use borrow.Author.Tests.{eq-eqb, le-ltb}
+use borrow.Author.Tests.{eq-eqb, eqb-true, eqb-false, le-ltb}
+use lib.Dec.{eqb}
 use lib.ListN.{length, take, drop}
 use Rattle.rules.specs.declared.Device.{Device}
 use Rattle.rules.specs.Record.{Shaped, freshOf}
+use Rattle.rules.specs.Interrupts.{linesOf}
 use Rattle.rules.specs.Sound.{soundOf}
+use Rattle.theorems.proofs.Stored.{sound-lines, sound-relined, fresh-lines}
 use Rattle.bodies.specs.Layout.{Layout, layoutOf, layoutIn, contentsLen, lengthOf, contentsOf}
 use Rattle.bodies.specs.Written.{imageOf}
 use Rattle.bodies.specs.Taken.{Bytes}
@@ -31,7 +34,8 @@ restored-image d f s =
     let long = eq-eqb (length (imageOf d)) (lengthOf (layoutOf d)) whole in
     let not-short = le-ltb (length (imageOf d)) (contentsLen (layoutOf d)) (omega arith) in
     let table = alike _ (contentsOf (layoutOf d)) (image-contents d) in
-    ap (λ (l : Layout). restoredIn l (imageOf d)) (image-layout d) ∙ simp (not-short, table, long, image-clear d v, read-back d f v, s)
+    let told = read-back d f v ∙ sound-relined d s in
+    ap (λ (l : Layout). restoredIn l (imageOf d)) (image-layout d) ∙ simp (not-short, table, long, image-clear d v, told, s)
 
 -- restoring what save wrote gives code 0 and that very record
 pub restored-saved : (d : Device) (e : List ℕ) → Shaped d → saveCode d (length e) ≡ 0
@@ -58,6 +62,15 @@ one-record d e f s g t h =
 -- a refused restore gives the fresh device
 pub refused-fresh : (s : List ℕ) → (restoredOf s .code ≡ 0 → ⊥) → restoredOf s .device ≡ freshOf
 refused-fresh s h = fresh s h
+
+-- the stored lines of what any restore gives are true
+lines-by : (t : Bool) (s : List ℕ) → eqb (restoredOf s .code) 0 ≡ t → restoredOf s .device .lines ≡ linesOf (restoredOf s .device)
+lines-by true s e = sound-lines (restoredOf s .device) (accepted-sound s (eqb-true (restoredOf s .code) 0 e))
+lines-by false s e =
+    subst (λ (d : Device). d .lines ≡ linesOf d) (sym (fresh s (eqb-false (restoredOf s .code) 0 e))) fresh-lines
+
+pub restored-lines : (s : List ℕ) → restoredOf s .device .lines ≡ linesOf (restoredOf s .device)
+restored-lines s = lines-by _ s refl
 
 -- a refused save leaves every byte of its buffer, and any save every byte past the image
 pub refused-untouched : (d : Device) (e : List ℕ) → (saveCode d (length e) ≡ 0 → ⊥) → savedOf d e ≡ e

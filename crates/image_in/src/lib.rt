@@ -34,7 +34,7 @@ pub fn device(
     let counted = read_counts(told, counts);
     let pinned = read_pins(counted, pins);
     let lined = read_lines(pinned, lines);
-    read_transfers(lined, transfers)
+    interrupts::relined(read_transfers(lined, transfers))
 }
 
 pub fn clear(registers: &[u8], counts: &[u8], pins: &[u8], lines: &[u8], transfers: &[u8]) -> bool

@@ -5,6 +5,7 @@ ghost use Rattle.bodies.specs.Taken.{byteAt, sourceIn, sourcesIn, portIn, ports
 use crate::bits::bit_at;
 use rules::Counter;
 use rules::Device;
+use rules::Lines;
 use rules::Pattern;
 use rules::Port;
 use rules::Source;
@@ -120,5 +121,10 @@ pub(crate) fn read_registers(version: u8, b: &[u8]) -> Device
         sources: sources_in(b),
         iei: false,
         phase: false,
+        lines: Lines {
+            int: false,
+            ieo: false,
+            place: 0,
+        },
     }
 }

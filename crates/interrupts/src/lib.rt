@@ -1,13 +1,14 @@
-// The five sources of a device: who requests, the lines INT and IEO, the acknowledge, and vectors.
+// The five sources of a device: who requests, the lines, the acknowledge, and vectors.
 mod order;
 mod vectors;
 
 ghost use mathlib.Core.Path.{_≡_};
 ghost use Prim.Native.Nat.{_<_, _≤_};
 ghost use Rattle.rules.specs.Registers.{mie};
-ghost use Rattle.rules.specs.Interrupts.{first, pending, requests, requester, intOf, ieoOf, acknowledge, acknowledged, pendingCounter, vectorRead, currentVector};
+ghost use Rattle.rules.specs.Interrupts.{first, pending, requests, requester, intOf, ieoOf, placeOf, linesOf, relined, acknowledge, acknowledged, pendingCounter, vectorRead, currentVector};
 use order::NONE;
 use rules::Device;
+use rules::Lines;
 use rules::Source;
 
 fn mie(d: Device) -> bool
@@ -36,17 +37,43 @@ pub fn requester_of(d: Device) -> usize
     )
 }
 
-pub fn int(d: Device) -> bool
-    ensures { λ r. ⌜ r ≡ intOf d ⌝ }
+// The place of the highest requester: 1 to 5, or 0.
+fn place(d: Device) -> u8
+    ensures { λ r. ⌜ (r ≡ placeOf d) × (r ≤ 5) ⌝ }
 {
-    requester_of(d) != NONE
+    let k = requester_of(d);
+    if k == NONE {
+        return 0;
+    }
+    1 + (k as u8)
 }
 
-pub fn ieo(d: Device) -> bool
+fn ieo(d: Device) -> bool
     ensures { λ r. ⌜ r ≡ ieoOf d ⌝ }
 {
     let dlc = d.master / 64 % 2 == 1;
     d.iei & !order::served_at(d, Source::CT1) & !dlc
+}
+
+// INT, IEO and the place, worked out: some source requests where there is a place.
+pub fn lines(d: Device) -> Lines
+    ensures { λ r. ⌜ r ≡ linesOf d ⌝ }
+{
+    let n = place(d);
+    Lines {
+        int: n != 0,
+        ieo: ieo(d),
+        place: n,
+    }
+}
+
+// The record with its lines worked out.
+pub fn relined(d: Device) -> Device
+    ensures { λ r. ⌜ r ≡ relined d ⌝ }
+{
+    let mut e = d;
+    e.lines = lines(d);
+    e
 }
 
 // The value of an acknowledge.

@@ -7,9 +7,9 @@ use borrow.Author.Tests.{eqb-true, eqb-false, not-false, not-true}
 use Rattle.basics.proofs.Tests.{by-test}
 use Rattle.rules.specs.declared.Device.{Device}
 use Rattle.rules.specs.declared.Event.{Event}
-use Rattle.rules.specs.Interrupts.{acknowledged}
+use Rattle.rules.specs.Interrupts.{relined, acknowledged}
 use Rattle.rules.specs.Step.{ranOf}
-use Rattle.rules.specs.Events.{isT, isK, codeOf, effect, clocksEffect, acknowledgeEffect, effectOf, outcomeOf, eventOf}
+use Rattle.rules.specs.Events.{isT, isK, codeOf, effect, clocksEffect, acknowledgeEffect, effectOf, relit, outcomeOf, eventOf}
 use Rattle.theorems.proofs.Refusals.{code-is, refused-keeps}
 use Rattle.measure.specs.declared.Measure.{Measure}
 use Rattle.measure.specs.declared.Measured.{Measured}
@@ -39,10 +39,10 @@ module _ (d : Device) (e : Event) where
   refused-device n = refused-keeps d e (λ z. n (sym (code-is d e) ∙ z))
 
   module _ (z : codeOf d e ≡ 0) where
-    pub ticks-device : isT e ≡ true → eventOf d e .device ≡ ranOf (e .a) d .device
-    unfolding eventOf outcomeOf effectOf clocksEffect
+    pub ticks-device : isT e ≡ true → eventOf d e .device ≡ relined (ranOf (e .a) d .device)
+    unfolding eventOf outcomeOf relit effectOf clocksEffect
     ticks-device t = simp (z, eqb-true (e .kind) 4 t)
 
-    pub takes-device : isK e ≡ true → eventOf d e .device ≡ acknowledged d
-    unfolding eventOf outcomeOf effectOf acknowledgeEffect
+    pub takes-device : isK e ≡ true → eventOf d e .device ≡ relined (acknowledged d)
+    unfolding eventOf outcomeOf relit effectOf acknowledgeEffect
     takes-device t = simp (z, eqb-true (e .kind) 5 t)

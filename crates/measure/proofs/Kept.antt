@@ -11,7 +11,7 @@ use Rattle.rules.specs.declared.Source.{Source}
 use Rattle.rules.specs.declared.Device.{Device}
 use Rattle.rules.specs.declared.Event.{Event}
 use Rattle.rules.specs.Record.{quiet, sourceAt}
-use Rattle.rules.specs.Interrupts.{requester, acknowledged}
+use Rattle.rules.specs.Interrupts.{requester, relined, acknowledged}
 use Rattle.rules.specs.Step.{ranOf}
 use Rattle.rules.specs.Events.{codeOf, outcomeOf, eventOf}
 use Rattle.theorems.proofs.Reports.{ran-none}
@@ -41,6 +41,11 @@ start-kept d =
       clocks = omega arith;
       waits = five-at (λ k w. Fair 0 0 (sourceAt d k .ip) w) (λ k. none) (λ k. none-fair 0 0 _) (λ k. none-fair 0 0 _);
     }
+
+-- the lines are not looked at
+relined-kept : {n : ℕ} (m : Measure) (d : Device) → Kept n m d → Kept n m (relined d)
+unfolding relined
+relined-kept m d h = record { clocks = h .clocks; waits = h .waits }
 
 module _ (n : ℕ) where
   -- ---- steps and clocks
@@ -91,8 +96,8 @@ module _ (n : ℕ) where
     accepted-kept : codeOf d e ≡ 0 → past m e ≡ false → Kept (suc n) (measureOf m d e) (eventOf d e .device)
     accepted-kept z p =
         kinds m d e (λ (r : Measure). Kept (suc n) r (eventOf d e .device))
-        (λ t. rw (ticks-device d e z t) (more-kept _ _ (ticked-kept (e .a) d m (ltb-false _ _ (simp t at p)) h)))
-        (λ t. rw (takes-device d e z t) (taken-kept m d f h))
+        (λ t. rw (ticks-device d e z t) (more-kept _ _ (relined-kept _ _ (ticked-kept (e .a) d m (ltb-false _ _ (simp t at p)) h))))
+        (λ t. rw (takes-device d e z t) (relined-kept _ _ (taken-kept m d f h)))
         (more-kept _ _ (stepped-kept _ d (eventOf d e .device) m h))
 
     pub measured-kept : Kept (suc n) (measuredOf m d e .measure) (measuredOf m d e .device)

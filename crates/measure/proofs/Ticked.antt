@@ -6,9 +6,12 @@ use mathlib.Core.Bool.{false}
 use native.Mathlib.Nat.{add-zero, add-suc}
 use native.Mathlib.Omega.{arith}
 use Rattle.rules.specs.declared.Device.{Device}
+use Rattle.rules.specs.declared.Lines.{Lines}
 use Rattle.rules.specs.declared.Ran.{Ran}
+use Rattle.rules.specs.With.{withLines}
 use Rattle.rules.specs.Step.{ranOf}
 use Rattle.theorems.proofs.Reports.{ran-add}
+use Rattle.theorems.proofs.Stored.{ran-blind}
 use Rattle.measure.specs.declared.Measure.{Measure}
 use Rattle.measure.specs.Wait.{moved}
 use Rattle.measure.specs.Measure.{five, waitAt, stepped, clocked, ticked}
@@ -16,6 +19,12 @@ use Rattle.measure.specs.Rise.{ipAfter, waited}
 
 pub cut-device : (d : Device) (a b : ℕ) → ranOf (a + b) d .device ≡ ranOf b (ranOf a d .device) .device
 cut-device d a b = ap (λ (s : Ran). s .device) (ran-add a b d)
+
+-- the lines are not looked at
+pub ticked-blind : (l : Lines) (d : Device) (m : Measure) (n : ℕ) → ticked n (withLines d l) m ≡ ticked n d m
+unfolding ticked clocked stepped
+ticked-blind l d m zero = refl
+ticked-blind l d m (suc n) = simp (ran-blind l n d, ran-blind l (suc n) d, ticked-blind l d m n)
 
 module _ (d : Device) (m : Measure) where
   -- after one clock and more, and where the trace has that many

@@ -2,6 +2,7 @@
 ghost use mathlib.Core.Path.{_≡_};
 ghost use Prim.Native.Nat.{_+_, _≤_, _<_};
 ghost use Rattle.rules.specs.Record.{sourceAt};
+ghost use Rattle.rules.specs.Interrupts.{relined};
 ghost use Rattle.rules.specs.Step.{ranOf};
 ghost use Rattle.measure.specs.Wait.{moved as movedOf};
 ghost use Rattle.measure.specs.Measure.{waitAt, mostClocks, stepped as steppedOf, clearsBy, clearsByData, clears as clearsOf, ticked as tickedOf, taken as takenOf};
@@ -63,7 +64,7 @@ pub(crate) fn stepped(e: Event, d: Device, f: Device, m: Measure) -> Measure
 
 // Source k over the n clocks of a T, from d to f.
 fn over(k: usize, n: u32, d: Device, f: Device, m: Measure) -> Wait
-    requires { ⌜ (k < 5) × (0 < n) × (f ≡ ranOf n d .device) × (m .clocks + n ≤ mostClocks) ⌝ }
+    requires { ⌜ (k < 5) × (0 < n) × (f ≡ relined (ranOf n d .device)) × (m .clocks + n ≤ mostClocks) ⌝ }
     ensures { λ r. ⌜ r ≡ waited k d (m .clocks) (waitAt m k) n ⌝ }
 {
     let w = m.waits[k];
@@ -79,7 +80,7 @@ fn over(k: usize, n: u32, d: Device, f: Device, m: Measure) -> Wait
 
 // T n, from d to f.
 pub(crate) fn ticked(n: u32, d: Device, f: Device, m: Measure) -> Measure
-    requires { ⌜ (f ≡ ranOf n d .device) × (m .clocks + n ≤ mostClocks) ⌝ }
+    requires { ⌜ (f ≡ relined (ranOf n d .device)) × (m .clocks + n ≤ mostClocks) ⌝ }
     ensures { λ r. ⌜ r ≡ tickedOf n d m ⌝ }
 {
     if n == 0 {

@@ -23,7 +23,7 @@ use Rattle.rules.specs.Access.{afterRead, readOf, writtenOf}
 use Rattle.rules.specs.Counters.{commandedBy, outputOf, reachOf, turnOf}
 use Rattle.rules.specs.Events.{codeOf, eventOf}
 use Rattle.rules.specs.Handshakes.{ackinAt, availableOf, depth, handshakes, inputs, irfOf, offersAt, oreOf, outputs, readyOf}
-use Rattle.rules.specs.Interrupts.{acknowledge, acknowledged, currentVector, fateOf, ieoOf, intOf, requester, vectorRead}
+use Rattle.rules.specs.Interrupts.{acknowledge, acknowledged, currentVector, fateOf, linesOf, relined, requester, vectorRead}
 use Rattle.rules.specs.Moves.{givenAt, movesOf, storedAt}
 use Rattle.rules.specs.Patterns.{onAt}
 use Rattle.rules.specs.PortData.{catchesAt, dataAt, directionAt, effectiveAt, pathAt, pinsAt, seenAt}
@@ -42,6 +42,7 @@ use mathlib.Core.Bool.{_&&_, cond}
 use lib.Dec.{ltb}
 use Rattle.rules.specs.declared.Answer.{Answer}
 use Rattle.rules.specs.declared.Device.{Device}
+use Rattle.rules.specs.declared.Lines.{Lines}
 use Rattle.session.specs.declared.Fed.{Fed}
 use Rattle.session.specs.declared.Told.{Told}
 use Rattle.rules.proofs.Source.of_port as rules·Source-of-port
@@ -52,6 +53,7 @@ use Rattle.rules.proofs.Device.registers as rules·Device-registers
 use Rattle.rules.proofs.Device.reset as rules·Device-reset
 use Rattle.event.proofs.event as event·event
 use Rattle.inplace.proofs.event_in_place as inplace·event-in-place
+use Rattle.inplace.proofs.lines as inplace·lines
 use Rattle.bridge.proofs.through as bridge·through
 use Rattle.image.proofs.save as image·save
 use Rattle.image.proofs.restore as image·restore
@@ -85,8 +87,8 @@ use Rattle.image_in.proofs.clear as image-in·clear
 use Rattle.image_out.proofs.bodies as image-out·bodies
 use Rattle.input.proofs.start as input·start
 use Rattle.interrupts.proofs.requester_of as interrupts·requester-of
-use Rattle.interrupts.proofs.int as interrupts·int
-use Rattle.interrupts.proofs.ieo as interrupts·ieo
+use Rattle.interrupts.proofs.lines as interrupts·lines
+use Rattle.interrupts.proofs.relined as interrupts·relined
 use Rattle.interrupts.proofs.acknowledge as interrupts·acknowledge
 use Rattle.interrupts.proofs.acknowledged as interrupts·acknowledged
 use Rattle.interrupts.proofs.vector_read as interrupts·vector-read
@@ -164,6 +166,11 @@ module _ {M : Type 1} (𝓤 : URA M) where
       one-answer 𝓤 inplace·event-in-place.ended (inplace·event-in-place.clauses 𝓤) (λ κs. Answer × Device) (λ κs r x. (r, now (x .0)))
       (λ κs a. (eventOf (now (a .0)) (a .1 .0) .answer, eventOf (now (a .0)) (a .1 .0) .device))
       (λ H A at-mem run κs a g r x. fact-mono 𝓤 _ _ (λ p i. (p .0 i, p .1 i)))
+
+  pub inplace-lines : OneResult 𝓤 inplace·lines.ended (inplace·lines.clauses 𝓤)
+  inplace-lines =
+      one-answer 𝓤 inplace·lines.ended (inplace·lines.clauses 𝓤) (λ κs. Lines) (λ κs r x. r)
+      (λ κs a. now (a .0) .lines) (λ H A at-mem run κs a g r x. fact-mono 𝓤 _ _ (λ p. p .0))
 
   pub bridge-through : OneResult 𝓤 bridge·through.ended (bridge·through.clauses 𝓤)
   bridge-through = one-result 𝓤 bridge·through.ended (bridge·through.clauses 𝓤) (λ κs a. eventOf (a .0) (a .1 .0)) refl
@@ -301,11 +308,11 @@ module _ {M : Type 1} (𝓤 : URA M) where
       one-answer 𝓤 interrupts·requester-of.ended (interrupts·requester-of.clauses 𝓤) (λ κs. ℕ) (λ κs r x. r)
       (λ κs a. requester (a .0)) (λ H A at-mem run κs a g r x. fact-mono 𝓤 _ _ (λ p. p .0))
 
-  pub interrupts-int : OneResult 𝓤 interrupts·int.ended (interrupts·int.clauses 𝓤)
-  interrupts-int = one-result 𝓤 interrupts·int.ended (interrupts·int.clauses 𝓤) (λ κs a. intOf (a .0)) refl
+  pub interrupts-lines : OneResult 𝓤 interrupts·lines.ended (interrupts·lines.clauses 𝓤)
+  interrupts-lines = one-result 𝓤 interrupts·lines.ended (interrupts·lines.clauses 𝓤) (λ κs a. linesOf (a .0)) refl
 
-  pub interrupts-ieo : OneResult 𝓤 interrupts·ieo.ended (interrupts·ieo.clauses 𝓤)
-  interrupts-ieo = one-result 𝓤 interrupts·ieo.ended (interrupts·ieo.clauses 𝓤) (λ κs a. ieoOf (a .0)) refl
+  pub interrupts-relined : OneResult 𝓤 interrupts·relined.ended (interrupts·relined.clauses 𝓤)
+  interrupts-relined = one-result 𝓤 interrupts·relined.ended (interrupts·relined.clauses 𝓤) (λ κs a. relined (a .0)) refl
 
   pub interrupts-acknowledge : OneResult 𝓤 interrupts·acknowledge.ended (interrupts·acknowledge.clauses 𝓤)
   interrupts-acknowledge = one-result 𝓤 interrupts·acknowledge.ended (interrupts·acknowledge.clauses 𝓤) (λ κs a. acknowledge (a .0)) refl

@@ -2,9 +2,10 @@
 ghost use mathlib.Core.Path.{_≡_};
 ghost use Prim.Native.Nat.{_<_};
 ghost use Rattle.rules.specs.Record.{portAt, counterAt, sourceAt, resetOf};
-ghost use Rattle.rules.specs.Sound.{sameSource, sameCounter, samePort, samePattern, sameTransfer, sameSources, sameCounters, samePorts, samePatterns, sameTransfers, sameVectors, sameOf};
+ghost use Rattle.rules.specs.Sound.{sameSource, sameCounter, samePort, samePattern, sameTransfer, sameSources, sameCounters, samePorts, samePatterns, sameTransfers, sameVectors, sameLines, sameOf};
 use rules::Counter;
 use rules::Device;
+use rules::Lines;
 use rules::Pattern;
 use rules::Port;
 use rules::Source;
@@ -20,6 +21,7 @@ pub fn reset(d: Device) -> Device
     e.ports[1].outside = d.ports[1].outside;
     e.ports[2].outside = d.ports[2].outside;
     e.iei = d.iei;
+    e.lines.ieo = d.iei;
     e
 }
 
@@ -151,6 +153,12 @@ fn same_vectors(d: Device, e: Device) -> bool
     (d.vectors[0] == e.vectors[0]) & (d.vectors[1] == e.vectors[1]) & (d.vectors[2] == e.vectors[2])
 }
 
+fn same_lines(l: Lines, m: Lines) -> bool
+    ensures { λ r. ⌜ r ≡ sameLines l m ⌝ }
+{
+    (l.int == m.int) & (l.ieo == m.ieo) & (l.place == m.place)
+}
+
 pub fn same(d: Device, e: Device) -> bool
     ensures { λ r. ⌜ r ≡ sameOf d e ⌝ }
 {
@@ -160,6 +168,7 @@ pub fn same(d: Device, e: Device) -> bool
     let transfers = same_transfers(d, e);
     let counters = same_counters(d, e);
     let sources = same_sources(d, e);
+    let lines = same_lines(d.lines, e.lines);
     (d.version == e.version)
         & (d.master == e.master)
         & (d.config == e.config)
@@ -171,4 +180,5 @@ pub fn same(d: Device, e: Device) -> bool
         & sources
         & (d.iei == e.iei)
         & (d.phase == e.phase)
+        & lines
 }

@@ -4,7 +4,7 @@ ghost use Prim.Native.Nat.{_<_};
 ghost use Rattle.rules.specs.Record.{counterAt, sourceAt};
 ghost use Rattle.rules.specs.Registers.{counterEnabled};
 ghost use Rattle.rules.specs.Sound.{fourBits, laterPort, noLater, soundSource, soundCounter, soundPort, soundPortAt, pmfOnly, heldOnly, soundTransfer, soundTransferAt};
-ghost use Rattle.rules.specs.Sound.{resetOnly, soundSources, soundCounters, soundPorts, soundPatterns, soundTransfers, soundVersion, soundOf};
+ghost use Rattle.rules.specs.Sound.{resetOnly, soundSources, soundCounters, soundPorts, soundPatterns, soundTransfers, soundVersion, soundButLines, soundLines, soundOf};
 use crate::settings;
 use rules::Counter;
 use rules::Device;
@@ -178,7 +178,10 @@ fn reset_only(d: Device) -> bool
     ensures { λ r. ⌜ r ≡ resetOnly d ⌝ }
 {
     if d.reset() {
-        return record::same(d, record::reset(d));
+        let mut e = record::reset(d);
+        let lines = d.lines;
+        e.lines = lines;
+        return record::same(d, e);
     }
     true
 }
@@ -189,8 +192,16 @@ fn sound_version(d: Device) -> bool
     (d.version == 1) | (d.version == 2)
 }
 
-pub fn sound(d: Device) -> bool
-    ensures { λ r. ⌜ r ≡ soundOf d ⌝ }
+fn sound_lines(d: Device) -> bool
+    ensures { λ r. ⌜ r ≡ soundLines d ⌝ }
+{
+    let l = d.lines;
+    let m = interrupts::lines(d);
+    (l.int == m.int) & (l.ieo == m.ieo) & (l.place == m.place)
+}
+
+fn sound_but_lines(d: Device) -> bool
+    ensures { λ r. ⌜ r ≡ soundButLines d ⌝ }
 {
     sound_version(d)
         & no_later(d)
@@ -200,4 +211,10 @@ pub fn sound(d: Device) -> bool
         & sound_patterns(d)
         & sound_transfers(d)
         & reset_only(d)
+}
+
+pub fn sound(d: Device) -> bool
+    ensures { λ r. ⌜ r ≡ soundOf d ⌝ }
+{
+    sound_but_lines(d) & sound_lines(d)
 }

@@ -17,7 +17,7 @@ use Rattle.rules.specs.Moves.{movesOf}
 use Rattle.rules.specs.Report.{noReport}
 use Rattle.rules.specs.Registers.{kindOf, reset, readOnly, later}
 use Rattle.rules.specs.PortData.{pinsAt}
-use Rattle.rules.specs.Interrupts.{requester, intOf, ieoOf, acknowledged, acknowledge}
+use Rattle.rules.specs.Interrupts.{requester, relined, acknowledged, acknowledge}
 use Rattle.rules.specs.Step.{stepOf, ranOf}
 use Rattle.rules.specs.Access.{readOf, readsByte, writesByte, afterRead, writtenOf}
 use Rattle.rules.specs.Sound.{soundOf}
@@ -128,9 +128,13 @@ effectOf d e =
     if isK e then acknowledgeEffect d else
     ieiEffect d (e .a)
 
+-- paper 02, W-208: the stored lines are kept "true through every event": worked out once, after it
+unfoldable pub relit : Effect → Effect
+relit r = record { device = relined (r .device); value = r .value; report = r .report }
+
 -- ---- the answer
 -- "An answer is: code, value (a byte), pin levels A, B, C, INT (1 = asserted), IEO (1 = High), and terminal counts of
--- counters 1, 2, 3 (0 but for T). Lines are those after the event." Paper 02, W-202: "T answers three more numbers".
+-- counters 1, 2, 3 (0 but for T). Lines are those after the event.", as they are stored. Paper 02, W-202: "T answers three more numbers".
 unfoldable pub answerOf : ℕ → Effect → Answer
 answerOf code r =
     record {
@@ -139,8 +143,8 @@ answerOf code r =
       a = pinsAt (r .device) 0;
       b = pinsAt (r .device) 1;
       c = pinsAt (r .device) 2;
-      int = intOf (r .device);
-      ieo = ieoOf (r .device);
+      int = r .device .lines .int;
+      ieo = r .device .lines .ieo;
       report = r .report;
     }
 
@@ -155,5 +159,5 @@ outcomeOf code r = record { device = r .device; answer = answerOf code r }
 unfoldable pub eventOf : Device → Event → Outcome
 eventOf d e =
     if codeOf d e == 9 then record { device = d; answer = unsoundAnswer } else
-    if codeOf d e == 0 then outcomeOf 0 (effectOf d e) else
+    if codeOf d e == 0 then outcomeOf 0 (relit (effectOf d e)) else
     outcomeOf (codeOf d e) (effect d 0)

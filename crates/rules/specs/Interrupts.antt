@@ -3,13 +3,14 @@
 use Prim.Native.Nat.{ℕ, zero, suc, _+_, _*_, _/_, _%_}
 use mathlib.Core.Bool.{Bool, true, false, not, _&&_, _||_, cond}
 use lib.Dec.{eqb}
+use Rattle.rules.specs.declared.Lines.{Lines}
 use Rattle.rules.specs.declared.Device.{Device}
 use Rattle.rules.specs.declared.Source.{Source}
 use Rattle.rules.specs.declared.Fate.{Fate}
 use Rattle.rules.specs.declared.Fate.the-variants.{Nothing, Taken, Kept, Lost}
 use Rattle.basics.specs.Signs.{if_then_else_, _==_}
 use Rattle.basics.specs.Byte.{num}
-use Rattle.rules.specs.With.{withIus, withIp, withHidden, withSource}
+use Rattle.rules.specs.With.{withIus, withIp, withHidden, withSource, withLines}
 use Rattle.rules.specs.Record.{vectorAt, patternAt, sourceAt, ofPort}
 use Rattle.rules.specs.Handshakes.{irfAt, oreAt}
 use Rattle.rules.specs.Registers.{mie, dlc, nv, vis}
@@ -76,6 +77,17 @@ intOf d = not (requester d == 5)
 -- "IEO = IEI, no IUS anywhere, DLC = 0."
 unfoldable pub ieoOf : Device → Bool
 ieoOf d = d .iei && not (served d 4) && not (dlc d)
+
+-- ---- paper 02, W-208: "Store both in the device, with the highest requester's place in order (1 to 5, 0 if none)"
+unfoldable pub placeOf : Device → ℕ
+placeOf d = if requester d == 5 then 0 else 1 + requester d
+
+-- the lines, worked out; and the record with them
+unfoldable pub linesOf : Device → Lines
+linesOf d = record { int = intOf d; ieo = ieoOf d; place = placeOf d }
+
+unfoldable pub relined : Device → Device
+relined d = withLines d (linesOf d)
 
 -- ---- vectors
 -- the vector register of the source k: 0 A, 1 B, 2 CT

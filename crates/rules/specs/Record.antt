@@ -11,6 +11,7 @@ use Rattle.rules.specs.declared.Counter.{Counter}
 use Rattle.rules.specs.declared.Port.{Port}
 use Rattle.rules.specs.declared.Pattern.{Pattern}
 use Rattle.rules.specs.declared.Transfer.{Transfer}
+use Rattle.rules.specs.declared.Lines.{Lines}
 use Rattle.rules.specs.declared.Device.{Device}
 use Rattle.rules.specs.With.{transfer, device}
 
@@ -36,6 +37,10 @@ blank = record { mode = 0; handshake = 0; polarity = 0; transition = 0; mask = 0
 
 abbrev pub vacant : Transfer
 vacant = transfer 0 0 0 false false
+
+-- paper 02, W-208: of the stored lines INT 0 and no requester; IEO is IEI
+abbrev pub silent : Bool → Lines
+silent iei = record { int = false; ieo = iei; place = 0 }
 
 -- ---- the parts by their place: vectors A, B, CT; ports A, B, C; patterns and transfers A, B; counters 1, 2, 3; sources CT3, A, CT2, B, CT1.
 -- Past its end an array reads as an empty part.
@@ -69,7 +74,7 @@ ofCounter i = 4 - 2 * i
 abbrev pub resetTo : ℕ → ℕ → ℕ → ℕ → Bool → Device
 resetTo n a b c v =
     device n 0x01 0x00 (0 ∷ 0 ∷ 0 ∷ []) (bare a ∷ bare b ∷ bare c ∷ []) (blank ∷ blank ∷ []) (vacant ∷ vacant ∷ []) (idle ∷ idle ∷ idle ∷ [])
-    (quiet ∷ quiet ∷ quiet ∷ quiet ∷ quiet ∷ []) v false
+    (quiet ∷ quiet ∷ quiet ∷ quiet ∷ quiet ∷ []) v false (silent v)
 
 unfoldable pub resetOf : Device → Device
 resetOf d = resetTo (d .version) (portAt d 0 .outside) (portAt d 1 .outside) (portAt d 2 .outside) (d .iei)

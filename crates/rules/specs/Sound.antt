@@ -9,13 +9,16 @@ use Rattle.rules.specs.declared.Counter.{Counter}
 use Rattle.rules.specs.declared.Port.{Port}
 use Rattle.rules.specs.declared.Pattern.{Pattern}
 use Rattle.rules.specs.declared.Transfer.{Transfer}
+use Rattle.rules.specs.declared.Lines.{Lines}
 use Rattle.basics.specs.Signs.{_==_}
 use Rattle.basics.specs.Byte.{bit, every, any}
+use Rattle.rules.specs.With.{withLines}
 use Rattle.rules.specs.Record.{vectorAt, portAt, patternAt, transferAt, counterAt, sourceAt, vacant, ofPort, resetOf}
 use Rattle.rules.specs.Registers.{reset, portEnabled, counterEnabled, laterConfig, laterPortMode, laterHandshake, laterCounterMode}
 use Rattle.rules.specs.Handshakes.{outputs, handshakes, itb, strobed, depth}
 use Rattle.rules.specs.PortData.{catchesAt, effectiveAt, pathAt}
 use Rattle.rules.specs.Patterns.{isAnd, isOr, onAt}
+use Rattle.rules.specs.Interrupts.{linesOf}
 
 -- if the first, the second
 abbrev pub only : Bool → Bool → Bool
@@ -158,14 +161,18 @@ unfoldable pub sameVectors : Device → Device → Bool
 sameVectors d e =
     vectorAt d 0 == vectorAt e 0 && vectorAt d 1 == vectorAt e 1 && vectorAt d 2 == vectorAt e 2
 
+unfoldable pub sameLines : Lines → Lines → Bool
+sameLines l m = Bool·beq (l .int) (m .int) && Bool·beq (l .ieo) (m .ieo) && l .place == m .place
+
 unfoldable pub sameOf : Device → Device → Bool
 sameOf d e =
     d .version == e .version && d .master == e .master && d .config == e .config && sameVectors d e && samePorts d e && samePatterns d e
     && sameTransfers d e && sameCounters d e && sameSources d e && Bool·beq (d .iei) (e .iei) && Bool·beq (d .phase) (e .phase)
+    && sameLines (d .lines) (e .lines)
 
--- "under RESET all as reset leaves it"
+-- "under RESET all as reset leaves it": all but the stored lines, which have a clause of their own
 unfoldable pub resetOnly : Device → Bool
-resetOnly d = only (reset d) (sameOf d (resetOf d))
+resetOnly d = only (reset d) (sameOf d (withLines (resetOf d) (d .lines)))
 
 -- ---- all the clauses, at every source, counter and port
 unfoldable pub soundSources : Device → Bool
@@ -195,5 +202,14 @@ soundTransfers d = soundTransferAt d 0 && soundTransferAt d 1
 unfoldable pub soundVersion : Device → Bool
 soundVersion d = d .version == 1 || d .version == 2
 
+-- all but the stored lines
+unfoldable pub soundButLines : Device → Bool
+soundButLines d =
+    soundVersion d && noLater d && soundSources d && soundCounters d && soundPorts d && soundPatterns d && soundTransfers d && resetOnly d
+
+-- paper 02, W-208: "A record whose stored lines are false is unsound"
+unfoldable pub soundLines : Device → Bool
+soundLines d = sameLines (d .lines) (linesOf d)
+
 unfoldable pub soundOf : Device → Bool
-soundOf d = soundVersion d && noLater d && soundSources d && soundCounters d && soundPorts d && soundPatterns d && soundTransfers d && resetOnly d
+soundOf d = soundButLines d && soundLines d

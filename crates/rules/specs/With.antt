@@ -10,6 +10,7 @@ use Rattle.rules.specs.declared.Counter.{Counter}
 use Rattle.rules.specs.declared.Port.{Port}
 use Rattle.rules.specs.declared.Pattern.{Pattern}
 use Rattle.rules.specs.declared.Transfer.{Transfer}
+use Rattle.rules.specs.declared.Lines.{Lines}
 use Rattle.rules.specs.declared.Device.{Device}
 
 -- ---- a source
@@ -117,8 +118,8 @@ abbrev pub withPair : Transfer → Bool → Transfer
 withPair t v = transfer (t .front) (t .behind) (t .bytes) (t .unfinished) v
 
 -- ---- the device, of its parts in the struct's order
-abbrev pub device : ℕ → ℕ → ℕ → List ℕ → List Port → List Pattern → List Transfer → List Counter → List Source → Bool → Bool → Device
-device n m f vs qs ps ts cs ss i h =
+abbrev pub device : ℕ → ℕ → ℕ → List ℕ → List Port → List Pattern → List Transfer → List Counter → List Source → Bool → Bool → Lines → Device
+device n m f vs qs ps ts cs ss i h l =
     record {
       version = n;
       master = m;
@@ -131,38 +132,43 @@ device n m f vs qs ps ts cs ss i h =
       sources = ss;
       iei = i;
       phase = h;
+      lines = l;
     }
 
 abbrev pub withMaster : Device → ℕ → Device
-withMaster d v = device (d .version) v (d .config) (d .vectors) (d .ports) (d .patterns) (d .transfers) (d .counters) (d .sources) (d .iei) (d .phase)
+withMaster d v = device (d .version) v (d .config) (d .vectors) (d .ports) (d .patterns) (d .transfers) (d .counters) (d .sources) (d .iei) (d .phase) (d .lines)
 
 abbrev pub withConfig : Device → ℕ → Device
-withConfig d v = device (d .version) (d .master) v (d .vectors) (d .ports) (d .patterns) (d .transfers) (d .counters) (d .sources) (d .iei) (d .phase)
+withConfig d v = device (d .version) (d .master) v (d .vectors) (d .ports) (d .patterns) (d .transfers) (d .counters) (d .sources) (d .iei) (d .phase) (d .lines)
 
 abbrev pub withVectors : Device → List ℕ → Device
-withVectors d v = device (d .version) (d .master) (d .config) v (d .ports) (d .patterns) (d .transfers) (d .counters) (d .sources) (d .iei) (d .phase)
+withVectors d v = device (d .version) (d .master) (d .config) v (d .ports) (d .patterns) (d .transfers) (d .counters) (d .sources) (d .iei) (d .phase) (d .lines)
 
 abbrev pub withPorts : Device → List Port → Device
-withPorts d v = device (d .version) (d .master) (d .config) (d .vectors) v (d .patterns) (d .transfers) (d .counters) (d .sources) (d .iei) (d .phase)
+withPorts d v = device (d .version) (d .master) (d .config) (d .vectors) v (d .patterns) (d .transfers) (d .counters) (d .sources) (d .iei) (d .phase) (d .lines)
 
 abbrev pub withPatterns : Device → List Pattern → Device
-withPatterns d v = device (d .version) (d .master) (d .config) (d .vectors) (d .ports) v (d .transfers) (d .counters) (d .sources) (d .iei) (d .phase)
+withPatterns d v = device (d .version) (d .master) (d .config) (d .vectors) (d .ports) v (d .transfers) (d .counters) (d .sources) (d .iei) (d .phase) (d .lines)
 
 abbrev pub withTransfers : Device → List Transfer → Device
-withTransfers d v = device (d .version) (d .master) (d .config) (d .vectors) (d .ports) (d .patterns) v (d .counters) (d .sources) (d .iei) (d .phase)
+withTransfers d v = device (d .version) (d .master) (d .config) (d .vectors) (d .ports) (d .patterns) v (d .counters) (d .sources) (d .iei) (d .phase) (d .lines)
 
 -- its counters, its sources, IEI and the clock phase
 abbrev pub withCounters : Device → List Counter → Device
-withCounters d v = device (d .version) (d .master) (d .config) (d .vectors) (d .ports) (d .patterns) (d .transfers) v (d .sources) (d .iei) (d .phase)
+withCounters d v = device (d .version) (d .master) (d .config) (d .vectors) (d .ports) (d .patterns) (d .transfers) v (d .sources) (d .iei) (d .phase) (d .lines)
 
 abbrev pub withSources : Device → List Source → Device
-withSources d v = device (d .version) (d .master) (d .config) (d .vectors) (d .ports) (d .patterns) (d .transfers) (d .counters) v (d .iei) (d .phase)
+withSources d v = device (d .version) (d .master) (d .config) (d .vectors) (d .ports) (d .patterns) (d .transfers) (d .counters) v (d .iei) (d .phase) (d .lines)
 
 abbrev pub withIei : Device → Bool → Device
-withIei d v = device (d .version) (d .master) (d .config) (d .vectors) (d .ports) (d .patterns) (d .transfers) (d .counters) (d .sources) v (d .phase)
+withIei d v = device (d .version) (d .master) (d .config) (d .vectors) (d .ports) (d .patterns) (d .transfers) (d .counters) (d .sources) v (d .phase) (d .lines)
 
 abbrev pub withPhase : Device → Bool → Device
-withPhase d v = device (d .version) (d .master) (d .config) (d .vectors) (d .ports) (d .patterns) (d .transfers) (d .counters) (d .sources) (d .iei) v
+withPhase d v = device (d .version) (d .master) (d .config) (d .vectors) (d .ports) (d .patterns) (d .transfers) (d .counters) (d .sources) (d .iei) v (d .lines)
+
+-- and the stored lines
+abbrev pub withLines : Device → Lines → Device
+withLines d v = device (d .version) (d .master) (d .config) (d .vectors) (d .ports) (d .patterns) (d .transfers) (d .counters) (d .sources) (d .iei) (d .phase) v
 
 -- ---- one part of an array, by its place
 abbrev pub withVector : Device → ℕ → ℕ → Device

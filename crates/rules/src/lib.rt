@@ -2,7 +2,7 @@
 // The rules over them are in specs/, in the paper's words.
 ghost use mathlib.Core.Path.{_≡_};
 ghost use Prim.Native.Nat.{_%_};
-ghost use Rattle.rules.specs.Record.{quiet, idle, bare, blank, vacant, freshOf, imageLen, registerCount, ofPort, ofCounter};
+ghost use Rattle.rules.specs.Record.{quiet, idle, bare, blank, vacant, silent, freshOf, imageLen, registerCount, ofPort, ofCounter};
 ghost use Rattle.rules.specs.Registers.{reset};
 
 // One of the five interrupt sources: what its command register shows, and the hidden error, which none does.
@@ -165,6 +165,26 @@ impl Transfer {
     }
 }
 
+// The interrupt lines as they are stored: INT, IEO, and the place of the highest requester in the order CT3, A, CT2, B, CT1, 1 to 5, 0 if none requests.
+pub struct Lines {
+    pub int: bool,
+    pub ieo: bool,
+    pub place: u8,
+}
+
+impl Lines {
+    // As a reset leaves them.
+    fn silent(iei: bool) -> Self
+        ensures { λ r. ⌜ r ≡ silent iei ⌝ }
+    {
+        Lines {
+            int: false,
+            ieo: iei,
+            place: 0,
+        }
+    }
+}
+
 // The device. `version` is 1 or 2, of its pulse and its image; `vectors` are A, B, CT; `ports` A, B, C; `patterns` and `transfers` A, B; `counters` 1, 2, 3;
 // `sources` stand in their order of priority: CT3, A, CT2, B, CT1.
 pub struct Device {
@@ -179,6 +199,7 @@ pub struct Device {
     pub sources: [Source; 5],
     pub iei: bool,
     pub phase: bool,
+    pub lines: Lines,
 }
 
 impl Device {
@@ -198,6 +219,7 @@ impl Device {
         let transfer = Transfer::vacant();
         let counter = Counter::idle();
         let source = Source::quiet();
+        let lines = Lines::silent(true);
         Device {
             version: 2,
             master: 1,
@@ -210,6 +232,7 @@ impl Device {
             sources: [source, source, source, source, source],
             iei: true,
             phase: false,
+            lines: lines,
         }
     }
 

@@ -8,17 +8,15 @@ use lib.Dec.{eqb}
 use lib.ListN.{getD}
 use Rattle.rules.specs.declared.Device.{Device}
 use Rattle.rules.specs.declared.Counter.{Counter}
-use Rattle.rules.specs.declared.Fate.{Fate}
-use Rattle.rules.specs.declared.Fate.the-variants.{Nothing, Taken, Kept, Lost}
-use Rattle.rules.specs.Record.{portAt, patternAt, counterAt, sourceAt, idle, ofPort}
+use Rattle.rules.specs.Record.{portAt, patternAt, counterAt, idle, ofPort}
 use Rattle.rules.specs.With.{withCounters, withPattern, withPmf, withCatcher}
 use Rattle.rules.specs.Registers.{portEnabled}
 use Rattle.rules.specs.Counters.{outputOf}
 use Rattle.rules.specs.Handshakes.{outputs, isLine, ackinAt, offersAt, shownAt}
 use Rattle.rules.specs.PortData.{caughtOf, seenOf, pinsOf, pathOf, directionAt, specialAt, effectiveAt, standing, lined, valueAt, pinsAt, pathAt, seenAt}
 use Rattle.rules.specs.Patterns.{matchOf}
-use Rattle.rules.specs.Interrupts.{fateOf, afterFate}
-use Rattle.rules.specs.Step.{linesAt, eventAt, caughtAt, catchers, matchedBy, patternTurn, settled}
+use Rattle.rules.specs.Step.{linesAt, caughtAt, catchers, matchedBy, patternTurn, settled}
+use Rattle.theorems.proofs.Fates.{event-apart}
 use Rattle.theorems.proofs.Frame.{frame-pattern, event-counters}
 
 -- the same modes and outputs, in that version
@@ -67,21 +65,11 @@ module _ (d : Device) (m : List Counter) (a : Alike (d .version) (d .counters) m
   catchers-alike = simp (caught-alike 0, caught-alike 1, caught-alike 2)
 
 -- a pattern's turn does not look at the counters but for what is seen
-fate-others : (d : Device) (m : List Counter) (k : ℕ) (f : Fate) → afterFate (others d m) k f ≡ others (afterFate d k f) m
-unfolding afterFate
-fate-others d m k Nothing = refl
-fate-others d m k Taken = refl
-fate-others d m k Kept = refl
-fate-others d m k Lost = refl
-
-event-others : (d : Device) (m : List Counter) (k : ℕ) (hides happens : Bool) → eventAt (others d m) k hides happens ≡ others (eventAt d k hides happens) m
-unfolding eventAt
-event-others d m k hides happens = fate-others d m k (fateOf hides happens (sourceAt d k))
-
 matched-others : (p : ℕ) (matches : Bool) (d : Device) (m : List Counter) → matchedBy p matches (others d m) ≡ others (matchedBy p matches d) m
 unfolding matchedBy
 matched-others p matches d m =
-    event-others (withPattern d p (withPmf (patternAt d p) matches)) m (ofPort p) (patternAt d p .ioe) (matches && not (patternAt d p .pmf))
+    event-apart (λ (e : Device). others e m) (λ e. refl) (λ e k s. refl) (withPattern d p (withPmf (patternAt d p) matches)) (ofPort p) (patternAt d p .ioe)
+    (matches && not (patternAt d p .pmf))
 
 pattern-alike : (p before : ℕ) (d : Device) (m : List Counter) → Alike (d .version) (d .counters) m
     → patternTurn p before (others d m) ≡ others (patternTurn p before d) m

@@ -2,7 +2,7 @@
 -- record as it is, but for the data of an input port with handshake and the low count bytes.
 -- Assumes nothing.
 use Prim.Native.Nat.{ℕ, _<_}
-use mathlib.Core.Path.{_≡_, refl, ap}
+use mathlib.Core.Path.{_≡_, refl, ap, _∙_}
 use mathlib.Core.Bool.{true, false, not, _&&_, So}
 use lib.Dec.{eqb}
 use borrow.Author.Tests.{eqb-true}
@@ -18,9 +18,11 @@ use Rattle.rules.specs.With.{withPhase}
 use Rattle.rules.specs.Registers.{reset}
 use Rattle.rules.specs.Step.{ranOf}
 use Rattle.rules.specs.Access.{readsByte, afterRead}
-use Rattle.rules.specs.Events.{isR, readEffect, effectOf, outcomeOf, eventOf}
+use Rattle.rules.specs.Interrupts.{relined}
+use Rattle.rules.specs.Events.{isR, readEffect, effectOf, relit, outcomeOf, eventOf}
 use Rattle.basics.proofs.Tests.{by-test}
-use Rattle.theorems.proofs.Refusals.{ways}
+use Rattle.theorems.proofs.Refusals.{ways, accepted-sound}
+use Rattle.theorems.proofs.Stored.{sound-relined}
 use Rattle.theorems.proofs.Frame.{frame-step}
 use Rattle.theorems.proofs.Reports.{ran-keeps}
 
@@ -42,5 +44,7 @@ module _ (d : Device) (e : Event) (low : (within 0x10 0x15 (e .a) && bit (e .a) 
 
   -- any other R leaves the record as it is
   pub read-leaves : So (isR e) → eventOf d e .device ≡ d
-  unfolding outcomeOf effectOf
-  read-leaves r = ways d e (λ (o : Outcome). o .device ≡ d) (λ _. refl) (λ _. simp (eqb-true (e .kind) 2 r) effect-leaves) (λ _. refl)
+  unfolding outcomeOf effectOf relit
+  read-leaves r =
+      ways d e (λ (o : Outcome). o .device ≡ d) (λ _. refl)
+      (λ z. simp (eqb-true (e .kind) 2 r) (ap relined effect-leaves ∙ sound-relined d (accepted-sound d e z))) (λ _. refl)

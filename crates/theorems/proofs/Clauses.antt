@@ -1,4 +1,4 @@
--- `soundOf` is true of a record exactly when its parts are sound: the test taken apart, and put together.
+-- `soundOf`, but for the stored lines, is true of a record exactly when its parts are sound: the test taken apart, and put together.
 -- Assumes nothing.
 use Prim.Native.Nat.{ℕ, _<_}
 use mathlib.Core.Path.{_≡_, subst}
@@ -8,30 +8,36 @@ use lib.Dec.{eqb, lit<}
 use borrow.Author.Tests.{eqb-true, eq-eqb}
 use Rattle.rules.specs.declared.Device.{Device}
 use Rattle.rules.specs.declared.Port.{Port}
+use Rattle.rules.specs.With.{withLines}
 use Rattle.rules.specs.Record.{vectorAt, portAt, patternAt, transferAt, counterAt, sourceAt, quiet, idle, bare, blank, vacant, ofPort, resetOf}
 use Rattle.rules.specs.Registers.{reset, portEnabled, counterEnabled, laterConfig, laterCounterMode}
 use Rattle.rules.specs.Sound.{fourBits, laterPort, noLater, soundSource, soundCounter, pmfOnly, soundSources, soundCounters, soundPortAt, soundPorts}
-use Rattle.rules.specs.Sound.{soundPatterns, soundTransferAt, soundTransfers, resetOnly, soundVersion, soundOf, sameSource, sameCounter, samePort, samePattern, sameTransfer}
-use Rattle.rules.specs.Sound.{sameSources, sameCounters, samePorts, samePatterns, sameTransfers, sameVectors, sameOf}
+use Rattle.rules.specs.Sound.{soundPatterns, soundTransferAt, soundTransfers, resetOnly, soundVersion, soundButLines, soundLines, soundOf}
+use Rattle.rules.specs.Sound.{sameSource, sameCounter, samePort, samePattern, sameTransfer}
+use Rattle.rules.specs.Sound.{sameSources, sameCounters, samePorts, samePatterns, sameTransfers, sameVectors, sameLines, sameOf}
 use Rattle.basics.proofs.Tabled.{tabled}
-use Rattle.basics.proofs.Tests.{so-both, each, so-not, not-so}
+use Rattle.basics.proofs.Tests.{so-both, left, each, so-not, not-so}
 use Rattle.basics.proofs.Places.{each2, each3, each5}
 use Rattle.theorems.proofs.Equal.{beq-true, beq-refl, eqb-same, same-source, same-counter, same-port, same-pattern, same-transfer}
-use Rattle.theorems.proofs.Equal.{source-same, counter-same, port-same, pattern-same, transfer-same}
+use Rattle.theorems.proofs.Equal.{source-same, counter-same, port-same, pattern-same, transfer-same, lines-same}
 use Rattle.theorems.proofs.Parts.{if-then, only-if, SourceSound, CounterSound, TransferSound, Cleared, Sound}
 use Rattle.theorems.proofs.Parts.{source-sound, sound-source, counter-sound, sound-counter, four-bits, bits-four, transfer-sound, sound-transfer}
 
 -- ---- under RESET
 module _ (d : Device) where
-  cleared-of : So (sameOf d (resetOf d)) → Cleared d
+  -- as reset leaves it, with its own lines
+  abbrev asReset : Device
+  asReset = withLines (resetOf d) (d .lines)
+
+  cleared-of : So (sameOf d asReset) → Cleared d
   unfolding sameOf resetOf sameVectors samePorts samePatterns sameTransfers sameCounters sameSources
   cleared-of h =
-      let r = resetOf d in
+      let r = asReset in
       let part =
       each
       (eqb (d .version) (d .version) ∷ eqb (d .master) 1 ∷ eqb (d .config) 0
       ∷ sameVectors d r ∷ samePorts d r ∷ samePatterns d r ∷ sameTransfers d r ∷ sameCounters d r ∷ sameSources d r
-      ∷ Bool·beq (d .iei) (d .iei) ∷ Bool·beq (d .phase) false ∷ [])
+      ∷ Bool·beq (d .iei) (d .iei) ∷ Bool·beq (d .phase) false ∷ sameLines (d .lines) (d .lines) ∷ [])
       h in
       let vector = each (eqb (vectorAt d 0) 0 ∷ eqb (vectorAt d 1) 0 ∷ eqb (vectorAt d 2) 0 ∷ []) (part 3) in
       let port = each (samePort (portAt d 0) (portAt r 0) ∷ samePort (portAt d 1) (portAt r 1) ∷ samePort (portAt d 2) (portAt r 2) ∷ []) (part 4) in
@@ -61,12 +67,13 @@ module _ (d : Device) where
         phase = beq-true (d .phase) false (part 10);
       }
 
-  same-as : Cleared d → So (sameOf d (resetOf d))
+  same-as : Cleared d → So (sameOf d asReset)
   unfolding sameOf resetOf sameVectors samePorts samePatterns sameTransfers sameCounters sameSources
   same-as h =
       let port : (p : ℕ) → p < 3 → So (samePort (portAt d p) (bare (portAt d p .outside))) =
       λ p l. subst (λ (r : Port). So (samePort (portAt d p) r)) (h .ports p l) (port-same (portAt d p)) in
       so-both
+      (so-both
       (so-both
       (so-both
       (so-both
@@ -84,12 +91,13 @@ module _ (d : Device) where
       (simp (h .counters 0 (lit< tt), h .counters 1 (lit< tt), h .counters 2 (lit< tt), counter-same idle)))
       (simp (h .sources 0 (lit< tt), h .sources 1 (lit< tt), h .sources 2 (lit< tt), h .sources 3 (lit< tt), h .sources 4 (lit< tt), source-same quiet)))
       (beq-refl (d .iei)))
-      (simp (h .phase))
+      (simp (h .phase)))
+      (lines-same (d .lines))
 
 -- ---- the whole test
-pub sound-parts : (d : Device) → So (soundOf d) → Sound d
-unfolding soundOf soundVersion noLater soundSources soundCounters soundPorts soundPatterns soundTransfers soundTransferAt resetOnly
-sound-parts d h =
+pub clauses : (d : Device) → So (soundButLines d) → Sound d
+unfolding soundButLines soundVersion noLater soundSources soundCounters soundPorts soundPatterns soundTransfers soundTransferAt resetOnly
+clauses d h =
     let part = each (soundVersion d ∷ noLater d ∷ soundSources d ∷ soundCounters d ∷ soundPorts d ∷ soundPatterns d ∷ soundTransfers d ∷ resetOnly d ∷ []) h in
     let mode =
     each
@@ -120,14 +128,18 @@ sound-parts d h =
                 each5 (λ k. SourceSound (sourceAt d k))
                 (source-sound (source 0)) (source-sound (source 1)) (source-sound (source 2)) (source-sound (source 3)) (source-sound (source 4));
             four = four-bits (port 0);
-            held = λ r. cleared-of d (if-then (reset d) (sameOf d (resetOf d)) (part 7) r);
+            held = λ r. cleared-of d (if-then (reset d) (sameOf d (asReset d)) (part 7) r);
           };
       ports = each3 (λ p. So (soundPortAt d p)) (port 1) (port 2) (port 3);
       patterns = each2 (λ p. So (pmfOnly (portEnabled d p) (patternAt d p))) (pattern 0) (pattern 1);
     }
 
-pub parts-sound : (d : Device) → Sound d → So (soundOf d)
-unfolding soundOf soundVersion noLater soundSources soundCounters soundPorts soundPatterns soundTransfers soundTransferAt resetOnly
+pub sound-parts : (d : Device) → So (soundOf d) → Sound d
+unfolding soundOf
+sound-parts d h = clauses d (left (soundButLines d) (soundLines d) h)
+
+pub parts-sound : (d : Device) → Sound d → So (soundButLines d)
+unfolding soundButLines soundVersion noLater soundSources soundCounters soundPorts soundPatterns soundTransfers soundTransferAt resetOnly
 parts-sound d h =
     let b = h .base in
     so-both
@@ -151,4 +163,4 @@ parts-sound d h =
     (so-both (so-both (so-both (bits-four (b .four)) (h .ports 0 (lit< tt))) (h .ports 1 (lit< tt))) (h .ports 2 (lit< tt))))
     (so-both (h .patterns 0 (lit< tt)) (h .patterns 1 (lit< tt))))
     (so-both (sound-transfer (b .transfers 0 (lit< tt))) (sound-transfer (b .transfers 1 (lit< tt)))))
-    (only-if (reset d) (sameOf d (resetOf d)) (λ r. same-as d (b .held r)))
+    (only-if (reset d) (sameOf d (asReset d)) (λ r. same-as d (b .held r)))

@@ -19,14 +19,17 @@ use Rattle.rules.specs.Record.{Shaped}
 use Rattle.rules.specs.Registers.{reset}
 use Rattle.rules.specs.Report.{noReport, sums, reportsAdded}
 use Rattle.rules.specs.Step.{ranOf}
+use Rattle.rules.specs.Interrupts.{linesOf, relined}
 use Rattle.rules.specs.Sound.{soundOf}
-use Rattle.rules.specs.Events.{isT, unknown, noRegister, tooLarge, held, noByte, noRoom, codeOf, effect, clocksEffect, effectOf, answerOf, unsoundAnswer, outcomeOf, eventOf}
+use Rattle.rules.specs.Events.{isT, unknown, noRegister, tooLarge, held, noByte, noRoom, codeOf, effect, clocksEffect, effectOf, relit, answerOf, unsoundAnswer, outcomeOf, eventOf}
 use Rattle.theorems.specs.Traces.{answersOf, recordAfter, tracedOf, cutBy}
 use Rattle.theorems.specs.Ticks.{tick, onlyT, onlyT1, allClocks, onTop, answersAdded, answersAsOne, asOne}
 use Rattle.theorems.specs.Reports.{Fits}
 use Rattle.theorems.specs.Free.{timerClocks}
 use Rattle.basics.proofs.Tests.{so-both, left, right}
-use Rattle.theorems.proofs.Soundness.{ran-sound}
+use Rattle.theorems.proofs.Soundness.{ran-relined}
+use Rattle.theorems.proofs.Stored.{relined-blind, sound-relined, ran-blind}
+use Rattle.theorems.proofs.Refusals.{unsound}
 use Rattle.theorems.proofs.Traces.{unseen}
 use Rattle.theorems.proofs.Ignored.{as-tick}
 use Rattle.theorems.proofs.Reports.{ran-add, ran-none, ran-held, ran-fits}
@@ -34,7 +37,7 @@ use Rattle.theorems.proofs.ReportLaws.{none-fits, fits-more, num-le}
 
 -- ---- what T n answers: the run, or code 9
 abbrev ranOutcome : Ran → Outcome
-ranOutcome s = outcomeOf 0 (record { device = s .device; value = 0; report = s .report })
+ranOutcome s = outcomeOf 0 (relit (record { device = s .device; value = 0; report = s .report }))
 
 abbrev refusal : Device → Outcome
 refusal d = record { device = d; answer = unsoundAnswer }
@@ -43,27 +46,27 @@ tick-ran : (d : Device) (n : ℕ) → soundOf d ≡ true → eventOf d (tick n) 
 unfolding eventOf codeOf unknown noRegister tooLarge held noByte noRoom effectOf clocksEffect
 tick-ran d n s = simp (s, and-false)
 
-tick-refused : (d : Device) (n : ℕ) → soundOf d ≡ false → eventOf d (tick n) ≡ refusal d
-unfolding eventOf codeOf
-tick-refused d n s = simp s
-
 module _ (d : Device) (e : Event) (t : So (isT e)) where
   pub ran : soundOf d ≡ true → eventOf d e ≡ ranOutcome (ranOf (e .a) d)
   ran s = as-tick d e t ∙ tick-ran d (e .a) s
 
   pub refused : soundOf d ≡ false → eventOf d e ≡ refusal d
-  refused s = as-tick d e t ∙ tick-refused d (e .a) s
+  refused s = unsound d e s
 
   -- ---- T 0 changes nothing, and under RESET "T changes nothing"
+  as-it-was : soundOf d ≡ true → ranOutcome (record { device = d; report = noReport }) ≡ outcomeOf 0 (effect d 0)
+  unfolding relit
+  as-it-was s = ap (λ (e : Device). outcomeOf 0 (effect e 0)) (sound-relined d s)
+
   pub none : e .a ≡ 0 → soundOf d ≡ true → eventOf d e ≡ outcomeOf 0 (effect d 0)
-  none z s = ran s ∙ ap ranOutcome (ap (λ (n : ℕ). ranOf n d) z ∙ ran-none d)
+  none z s = ran s ∙ ap ranOutcome (ap (λ (n : ℕ). ranOf n d) z ∙ ran-none d) ∙ as-it-was s
 
   pub under-reset : reset d ≡ true → soundOf d ≡ true → eventOf d e ≡ outcomeOf 0 (effect d 0)
-  under-reset r s = ran s ∙ ap ranOutcome (ran-held (e .a) d r)
+  under-reset r s = ran s ∙ ap ranOutcome (ran-held (e .a) d r) ∙ as-it-was s
 
   -- ---- reports fit: at most one terminal of each counter in each timer clock, so no count wraps
   fits-by : (v : Bool) → soundOf d ≡ v → Fits (timerClocks d (e .a)) (eventOf d e .answer .report)
-  unfolding outcomeOf answerOf
+  unfolding relit outcomeOf answerOf
   fits-by true s = rw (ran s) (ran-fits (e .a) d)
   fits-by false s = rw (refused s) (fits-more 0 (timerClocks d (e .a)) noReport (omega arith) none-fits)
 
@@ -81,24 +84,28 @@ abbrev then : Outcome → Outcome → Outcome
 then o p = record { device = p .device; answer = answersAdded (o .answer) (p .answer) }
 
 on-top : (o s : Ran) → ranOutcome (onTop (o .report) s) ≡ then (ranOutcome o) (ranOutcome s)
-unfolding outcomeOf answerOf
+unfolding relit outcomeOf answerOf
 on-top o s = refl
 
-dev : (d : Device) (n : ℕ) → soundOf d ≡ true → eventOf d (tick n) .device ≡ ranOf n d .device
-unfolding outcomeOf
-dev d n s = ap (λ (o : Outcome). o .device) (tick-ran d n s)
+-- the clocks of a second T do not look at the lines that the first worked out
+next : (d : Device) (a b : ℕ) → soundOf d ≡ true → eventOf (eventOf d (tick a) .device) (tick b) ≡ ranOutcome (ranOf b (ranOf a d .device))
+unfolding relined relit outcomeOf
+next d a b s =
+    let e = ranOf a d .device in
+    let l = linesOf e in
+    ap (λ (o : Outcome). eventOf (o .device) (tick b)) (tick-ran d a s) ∙ tick-ran (relined e) b (ran-relined a d s)
+    ∙ ap ranOutcome (ran-blind l b e) ∙ ap (λ (f : Device). outcomeOf 0 (record { device = f; value = 0; report = ranOf b e .report })) (relined-blind _ l)
 
 two-by : (v : Bool) (d : Device) (a b : ℕ) → soundOf d ≡ v
     → eventOf d (tick (a + b)) ≡ then (eventOf d (tick a)) (eventOf (eventOf d (tick a) .device) (tick b))
 unfolding reportsAdded sums
 two-by true d a b s =
     tick-ran d (a + b) s ∙ ap ranOutcome (ran-add a b d) ∙ on-top (ranOf a d) (ranOf b (ranOf a d .device))
-    ∙ ap (then (ranOutcome (ranOf a d))) (sym (tick-ran (ranOf a d .device) b (ran-sound a d s)))
-    ∙ ap (λ (e : Device). then (ranOutcome (ranOf a d)) (eventOf e (tick b))) (sym (dev d a s))
+    ∙ ap (then (ranOutcome (ranOf a d))) (sym (next d a b s))
     ∙ ap (λ (o : Outcome). then o (eventOf (eventOf d (tick a) .device) (tick b))) (sym (tick-ran d a s))
 two-by false d a b s =
-    tick-refused d (a + b) s ∙ ap (then (refusal d)) (sym (tick-refused d b s))
-    ∙ ap (λ (o : Outcome). then o (eventOf (o .device) (tick b))) (sym (tick-refused d a s))
+    unsound d (tick (a + b)) s ∙ ap (then (refusal d)) (sym (unsound d (tick b) s))
+    ∙ ap (λ (o : Outcome). then o (eventOf (o .device) (tick b))) (sym (unsound d (tick a) s))
 
 -- the clocks of a first T, and the clocks of those after it
 cut-by : (d : Device) (f : Event) (l : List Event) → So (isT f) → So (onlyT l) → eventOf d (tick (f .a + allClocks l)) ≡ asOne (tracedOf d (f ∷ l))

@@ -22,7 +22,8 @@ use Rattle.rules.specs.Counters.{continuous, gateInput, square, lessOne, countO
 use Rattle.rules.specs.Step.{linesAt, stepOf, reported, clockOf, ranOf}
 use Rattle.basics.specs.Iterate.{iterate}
 use Rattle.rules.specs.Sound.{soundOf}
-use Rattle.rules.specs.Events.{isT, answerOf, outcomeOf, eventOf}
+use Rattle.rules.specs.Interrupts.{relined}
+use Rattle.rules.specs.Events.{isT, relit, answerOf, outcomeOf, eventOf}
 use Rattle.basics.proofs.Places.{all-zero}
 use Rattle.theorems.proofs.Clauses.{sound-parts}
 use Rattle.theorems.specs.Free.{Free, timerClocks, fullOf, terminalsAfter, countAfter, pulseAfter, lostAfter}
@@ -235,17 +236,17 @@ pub record Divided (d : Device) (i : ℕ) (e : Event) : Type 0 where
 event-view : (d : Device) (i : ℕ) (e : Event) → So (isT e) → soundOf d ≡ true
     → _≡_ {A = ℕ × ℕ} (counterAt (eventOf d e .device) i .count, getD (eventOf d e .answer .report .terminals) i 0)
     (counterAt (ranOf (e .a) d .device) i .count, getD (ranOf (e .a) d .report .terminals) i 0)
-unfolding outcomeOf answerOf
+unfolding relit relined outcomeOf answerOf
 event-view d i e t s = ap (λ (o : Outcome). (counterAt (o .device) i .count, getD (o .answer .report .terminals) i 0)) (ran d e t s)
 
 event-pulse : (d : Device) (i : ℕ) (e : Event) → So (isT e) → soundOf d ≡ true
     → counterAt (eventOf d e .device) i .pulse ≡ counterAt (ranOf (e .a) d .device) i .pulse
-unfolding outcomeOf
+unfolding relit relined outcomeOf
 event-pulse d i e t s = ap (λ (o : Outcome). counterAt (o .device) i .pulse) (ran d e t s)
 
 event-lost : (d : Device) (i : ℕ) (e : Event) → So (isT e) → i < 3 → soundOf d ≡ true → Shaped d
     → getD (eventOf d e .answer .report .lost) i 0 ≡ lostAfter (sourceAt d (ofCounter i)) (getD (eventOf d e .answer .report .terminals) i 0)
-unfolding outcomeOf answerOf
+unfolding relit outcomeOf answerOf
 event-lost d i e t h s shape = rw (ran d e t s) (ran-lost d i h (e .a) shape s)
 
 pub division : (d : Device) (i : ℕ) (e : Event) → So (isT e) → i < 3 → soundOf d ≡ true → Free d i → counterAt d i .count < 65536

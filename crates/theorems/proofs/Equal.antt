@@ -12,8 +12,9 @@ use Rattle.rules.specs.declared.Counter.{Counter}
 use Rattle.rules.specs.declared.Port.{Port}
 use Rattle.rules.specs.declared.Pattern.{Pattern}
 use Rattle.rules.specs.declared.Transfer.{Transfer}
+use Rattle.rules.specs.declared.Lines.{Lines}
 use Rattle.rules.specs.With.{transfer}
-use Rattle.rules.specs.Sound.{sameSource, sameCounter, samePort, samePattern, sameTransfer}
+use Rattle.rules.specs.Sound.{sameSource, sameCounter, samePort, samePattern, sameTransfer, sameLines}
 use Rattle.basics.proofs.Tests.{allOf, each}
 
 pub beq-true : (a b : Bool) → So (Bool·beq a b) → a ≡ b
@@ -146,3 +147,17 @@ same-transfer t u h = same-part transfer-of (transfer-fields t) (transfer-fields
 pub transfer-same : (t : Transfer) → So (sameTransfer t t)
 unfolding sameTransfer
 transfer-same t = simp (eqb-same, beq-refl)
+
+abbrev lines-fields : Lines → List Field
+lines-fields l = flag (l .int) ∷ flag (l .ieo) ∷ number (l .place) ∷ []
+
+abbrev lines-of : List Field → Lines
+lines-of l = record { int = bool l 0; ieo = bool l 1; place = num l 2 }
+
+pub same-lines : (l m : Lines) → So (sameLines l m) → l ≡ m
+unfolding sameLines
+same-lines l m h = same-part lines-of (lines-fields l) (lines-fields m) h
+
+pub lines-same : (l : Lines) → So (sameLines l l)
+unfolding sameLines
+lines-same l = simp (eqb-same, beq-refl)

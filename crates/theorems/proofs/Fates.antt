@@ -1,9 +1,10 @@
 -- What an event leaves of the record, by its fate: the record as it was, or another source at its place.
 -- Assumes nothing.
 use Prim.Native.Nat.{ℕ, _<_}
-use mathlib.Core.Path.{_≡_, refl, sym}
+use mathlib.Core.Path.{_≡_, refl, sym, ap, _∙_}
 use mathlib.Core.Bool.{Bool, true, false, not, _&&_, cond, So}
-use lib.ListN.{length}
+use mathlib.Core.List.{List}
+use lib.ListN.{getD, length}
 use lib.Seq.{getD-set-same, getD-set-other}
 use Rattle.rules.specs.declared.Device.{Device}
 use Rattle.rules.specs.declared.Source.{Source}
@@ -81,3 +82,19 @@ event-here d k hides happens h = fate-here d k (fateOf hides happens (sourceAt d
 pub event-there : (d : Device) (k j : ℕ) (hides happens : Bool) → (j ≡ k → ⊥) → sourceAt (eventAt d k hides happens) j ≡ sourceAt d j
 event-there d k j hides happens h =
     by-source (λ (e : Device). sourceAt e j ≡ sourceAt d j) d k hides happens refl (λ s. getD-set-other (d .sources) k j s quiet h)
+
+-- ---- what changes no source may as well be done after the event
+module _ (g : Device → Device) (same : (d : Device) → g d .sources ≡ d .sources)
+    (apart : (d : Device) (k : ℕ) (s : Source) → withSource (g d) k s ≡ g (withSource d k s)) where
+  pub fate-apart : (d : Device) (k : ℕ) (f : Fate) → afterFate (g d) k f ≡ g (afterFate d k f)
+  unfolding afterFate
+  fate-apart d k Nothing = refl
+  fate-apart d k Taken = ap (λ (l : List Source). withSource (g d) k (withIp (getD l k quiet) true)) (same d) ∙ apart d k _
+  fate-apart d k Kept = ap (λ (l : List Source). withSource (g d) k (withHidden (getD l k quiet) true)) (same d) ∙ apart d k _
+  fate-apart d k Lost = refl
+
+  pub event-apart : (d : Device) (k : ℕ) (hides happens : Bool) → eventAt (g d) k hides happens ≡ g (eventAt d k hides happens)
+  unfolding eventAt
+  event-apart d k hides happens =
+      ap (λ (l : List Source). afterFate (g d) k (fateOf hides happens (getD l k quiet))) (same d)
+      ∙ fate-apart d k (fateOf hides happens (sourceAt d k))

@@ -26,6 +26,9 @@ pub mod Accepted
 pub mod Soundness
 pub mod Shapes
 pub mod Traces
+-- The stored lines: true after every event, and looked at by no clock.
+pub mod Blind
+pub mod Stored
 -- What a port with handshake shows.
 pub mod Shown
 -- Clocks: reports, no byte that moves (and what R leaves), and demand 3.

@@ -1,4 +1,4 @@
--- A sound record, clause by clause: what `soundOf` tests, as facts about each source, counter, port, pattern and transfer.
+-- A sound record, clause by clause: what `soundButLines` tests, as facts about each source, counter, port, pattern and transfer.
 -- Assumes nothing.
 use Prim.Native.Nat.{ℕ, _/_, _<_, _≤_}
 use mathlib.Core.Path.{_≡_, refl, ap, subst}
@@ -159,7 +159,7 @@ module _ {e : Bool} {o : ℕ} {q : Pattern} {s : Source} {t : Transfer} where
       (only-if (putting q t) (eqb o (t .front))
       (λ w. eq-eqb o (t .front) (h .put (left (outputs q) (not none) w) (eqb-false (t .bytes) 0 (not-so none (right (outputs q) (not none) w))))))
 
--- ---- the record as reset leaves it, but for the version, the outside pins and IEI
+-- ---- the record as reset leaves it, but for the version, the outside pins, IEI and the stored lines
 pub record Cleared (d : Device) : Type 0 where
   pub master : d .master ≡ 1
   pub config : d .config ≡ 0

@@ -15,7 +15,7 @@ use Rattle.rules.specs.Report.{noReport}
 use Rattle.rules.specs.Registers.{readOnly, later}
 use Rattle.rules.specs.Interrupts.{requester}
 use Rattle.rules.specs.Sound.{soundOf}
-use Rattle.rules.specs.Events.{isW, isK, unknown, noRegister, tooLarge, held, noByte, noRoom, codeOf, effect, effectOf, answerOf, unsoundAnswer, outcomeOf, eventOf}
+use Rattle.rules.specs.Events.{isW, isK, unknown, noRegister, tooLarge, held, noByte, noRoom, codeOf, effect, effectOf, relit, answerOf, unsoundAnswer, outcomeOf, eventOf}
 use Rattle.basics.proofs.Tests.{so-both, each, so-not, by-test}
 use Rattle.theorems.proofs.Parts.{handshake-awake}
 use Rattle.theorems.proofs.Clauses.{sound-parts}
@@ -40,13 +40,13 @@ unheld d e s w = simp (handshake-awake d (e .a - 0x0D) (w .place) (sound-parts d
 module _ (d : Device) (e : Event) where
   -- the three ways of an event: an unsound record, an accepted event, a refusal
   pub ways : (P : Outcome → Type 0) → (codeOf d e ≡ 9 → P (record { device = d; answer = unsoundAnswer }))
-      → (codeOf d e ≡ 0 → P (outcomeOf 0 (effectOf d e))) → ((codeOf d e ≡ 9 → ⊥) → P (outcomeOf (codeOf d e) (effect d 0))) → P (eventOf d e)
+      → (codeOf d e ≡ 0 → P (outcomeOf 0 (relit (effectOf d e)))) → ((codeOf d e ≡ 9 → ⊥) → P (outcomeOf (codeOf d e) (effect d 0))) → P (eventOf d e)
   unfolding eventOf
   ways P f g h =
       by-test P (eqb (codeOf d e) 9) (record { device = d; answer = unsoundAnswer })
-      (cond (eqb (codeOf d e) 0) (outcomeOf 0 (effectOf d e)) (outcomeOf (codeOf d e) (effect d 0))) (λ t. f (eqb-true (codeOf d e) 9 t))
+      (cond (eqb (codeOf d e) 0) (outcomeOf 0 (relit (effectOf d e))) (outcomeOf (codeOf d e) (effect d 0))) (λ t. f (eqb-true (codeOf d e) 9 t))
       (λ n.
-      by-test P (eqb (codeOf d e) 0) (outcomeOf 0 (effectOf d e)) (outcomeOf (codeOf d e) (effect d 0)) (λ t. g (eqb-true (codeOf d e) 0 t))
+      by-test P (eqb (codeOf d e) 0) (outcomeOf 0 (relit (effectOf d e))) (outcomeOf (codeOf d e) (effect d 0)) (λ t. g (eqb-true (codeOf d e) 0 t))
       (λ _. h (eqb-false (codeOf d e) 9 n)))
 
   -- ---- the answer's code is the one of the order of the refusals
@@ -71,6 +71,10 @@ module _ (d : Device) (e : Event) where
   pub unsound-answer : eventOf d e .answer .code ≡ 9 → eventOf d e .answer ≡ unsoundAnswer
   unsound-answer n =
       ways (λ o. codeOf d e ≡ 9 → o .answer ≡ unsoundAnswer) (λ _ _. refl) (λ z q. absurd (omega arith)) (λ ne q. absurd (ne q)) (sym code-is ∙ n)
+
+  pub unsound : soundOf d ≡ false → eventOf d e ≡ record { device = d; answer = unsoundAnswer }
+  unfolding eventOf codeOf
+  unsound s = simp s
 
   -- with another refusal the lines are those of the record
   pub refused-answer : (eventOf d e .answer .code ≡ 0 → ⊥) → (eventOf d e .answer .code ≡ 9 → ⊥)
@@ -239,3 +243,11 @@ module _ (d : Device) (e : Event) where
       ↔ So (soundOf d && not (unknown e) && not (noRegister e) && not (tooLarge e)
       && (held d e || (not (refusedReadOnly e) && not (noByte d e) && not (noRoom d e) && not (refusedLater d e) && not (refusedIdle d e))))
   code-0 = exactly 0 _ (test-0 d e)
+
+  -- so the record is sound
+  accepted-by : (v : Bool) → soundOf d ≡ v → codeOf d e ≡ 0 → soundOf d ≡ true
+  accepted-by true s z = s
+  accepted-by false s z = absurd (omega (arith, z, code-9 .1 (so-not s)))
+
+  pub accepted-sound : codeOf d e ≡ 0 → soundOf d ≡ true
+  accepted-sound z = accepted-by _ refl z

@@ -10,16 +10,16 @@ use lib.Seq.{ext-getD}
 use borrow.Author.Tests.{eqb-true}
 use Rattle.rules.specs.declared.Device.{Device}
 use Rattle.rules.specs.Record.{Shaped, vectorAt, portAt, patternAt, transferAt, counterAt, sourceAt, quiet, idle, bare, blank, vacant}
-use Rattle.rules.specs.Sound.{sameSource, sameCounter, samePort, samePattern, sameTransfer, sameSources, sameCounters, samePorts, samePatterns, sameTransfers, sameVectors, sameOf}
+use Rattle.rules.specs.Sound.{sameSource, sameCounter, samePort, samePattern, sameTransfer, sameSources, sameCounters, samePorts, samePatterns, sameTransfers, sameVectors, sameLines, sameOf}
 use Rattle.basics.proofs.Tabled.{tabled}
 use Rattle.basics.proofs.Tests.{each}
 use Rattle.basics.proofs.Places.{each2, each3, each5}
-use Rattle.theorems.proofs.Equal.{beq-true, beq-refl, eqb-same, same-source, same-counter, same-port, same-pattern, same-transfer}
-use Rattle.theorems.proofs.Equal.{source-same, counter-same, port-same, pattern-same, transfer-same}
+use Rattle.theorems.proofs.Equal.{beq-true, beq-refl, eqb-same, same-source, same-counter, same-port, same-pattern, same-transfer, same-lines}
+use Rattle.theorems.proofs.Equal.{source-same, counter-same, port-same, pattern-same, transfer-same, lines-same}
 
 pub same-refl : (d : Device) → sameOf d d ≡ true
 unfolding sameOf sameVectors samePorts samePatterns sameTransfers sameCounters sameSources
-same-refl d = simp (eqb-same, beq-refl, source-same, counter-same, port-same, pattern-same, transfer-same)
+same-refl d = simp (eqb-same, beq-refl, source-same, counter-same, port-same, pattern-same, transfer-same, lines-same)
 
 -- lists of n elements that are equal at each place
 lists : {A : Type 0} (n : ℕ) (l m : List A) (x : A) → length l ≡ n → length m ≡ n → ((i : ℕ) → i < n → getD l i x ≡ getD m i x) → l ≡ m
@@ -70,7 +70,7 @@ module _ (d e : Device) where
       each
       (eqb (d .version) (e .version) ∷ eqb (d .master) (e .master) ∷ eqb (d .config) (e .config)
       ∷ sameVectors d e ∷ samePorts d e ∷ samePatterns d e ∷ sameTransfers d e ∷ sameCounters d e ∷ sameSources d e
-      ∷ Bool·beq (d .iei) (e .iei) ∷ Bool·beq (d .phase) (e .phase) ∷ [])
+      ∷ Bool·beq (d .iei) (e .iei) ∷ Bool·beq (d .phase) (e .phase) ∷ sameLines (d .lines) (e .lines) ∷ [])
       h in
       let vectors = lists 3 (d .vectors) (e .vectors) 0 (s .vectors) (t .vectors) (vectors-are (part 3)) in
       let ports = lists 3 (d .ports) (e .ports) (bare 0) (s .ports) (t .ports) (ports-are (part 4)) in
@@ -91,4 +91,5 @@ module _ (d e : Device) where
         sources = sources i;
         iei = beq-true (d .iei) (e .iei) (part 9) i;
         phase = beq-true (d .phase) (e .phase) (part 10) i;
+        lines = same-lines (d .lines) (e .lines) (part 11) i;
       }

@@ -23,16 +23,16 @@ use Rattle.rules.specs.declared.Kind.the-variants.{Data, Current, Constant, Cou
 use Rattle.basics.specs.Signs.{within}
 use Rattle.basics.specs.Byte.{bit}
 use Rattle.rules.specs.Record.{Shaped, patternAt, transferAt, freshOf, vacant, ofPort, ofCounter, resetOf}
-use Rattle.rules.specs.With.{withMaster, withVector, withPort, withPattern, withTransfer, withCounter, withSource, withIei, withPhase}
+use Rattle.rules.specs.With.{withMaster, withVector, withPort, withPattern, withTransfer, withCounter, withSource, withIei, withPhase, withLines}
 use Rattle.rules.specs.Report.{noReport}
 use Rattle.rules.specs.Registers.{reset, kindOf, portEnabled}
-use Rattle.rules.specs.Interrupts.{acknowledged}
+use Rattle.rules.specs.Interrupts.{linesOf, relined, acknowledged}
 use Rattle.rules.specs.Step.{eventAt, turned, counterTurn, catchers, matchedBy, patternTurn, settled, stepOf, reported, clockOf, ranOf}
 use Rattle.basics.specs.Iterate.{iterate}
 use Rattle.rules.specs.Handshakes.{inputs, outputs, ackinAt}
 use Rattle.rules.specs.Moves.{heldAt, putAt, worksAt, falls, takenAt, leftAt, movesAt, movesOf, givenAt, storedAt}
 use Rattle.rules.specs.Access.{readsByte, afterRead, masterWritten, configWritten, portCommanded, counterCommanded, dataWritten, writtenOf}
-use Rattle.rules.specs.Events.{isX, isW, isR, isP, isT, isK, writeEffect, readEffect, outsideSet, pinsEffect, clocksEffect, acknowledgeEffect, ieiEffect, effectOf, outcomeOf, eventOf}
+use Rattle.rules.specs.Events.{isX, isW, isR, isP, isT, isK, writeEffect, readEffect, outsideSet, pinsEffect, clocksEffect, acknowledgeEffect, ieiEffect, effectOf, relit, outcomeOf, eventOf}
 use Rattle.basics.proofs.Tests.{by-test}
 use Rattle.theorems.proofs.Fates.{by-source}
 use Rattle.theorems.proofs.Refusals.{ways}
@@ -166,6 +166,11 @@ moves-shaped : (d0 d : Device) → Shaped d → Shaped (movesOf d0 d)
 unfolding movesOf
 moves-shaped d0 d h = moves-at-shaped 1 d0 _ (moves-at-shaped 0 d0 d h)
 
+-- ---- the lines worked out
+pub relined-shaped : (d : Device) → Shaped d → Shaped (relined d)
+unfolding relined
+relined-shaped d h = shaped d (withLines d (linesOf d)) h refl refl refl refl refl refl
+
 -- ---- the other events
 module _ (d : Device) (h : Shaped d) where
   pub written-shaped : (k : Kind) (b : ℕ) → Shaped (writtenOf d k b)
@@ -232,5 +237,5 @@ module _ (d : Device) (h : Shaped d) where
       (λ _. shaped d (withIei d _) h refl refl refl refl refl refl))))))
 
   pub event-shaped : (e : Event) → Shaped (eventOf d e .device)
-  unfolding outcomeOf
-  event-shaped e = ways d e (λ (o : Outcome). Shaped (o .device)) (λ _. h) (λ _. effect-shaped e) (λ _. h)
+  unfolding outcomeOf relit
+  event-shaped e = ways d e (λ (o : Outcome). Shaped (o .device)) (λ _. h) (λ _. relined-shaped _ (effect-shaped e)) (λ _. h)

@@ -14,7 +14,7 @@ use Rattle.rules.specs.Handshakes.{inputs, outputs, strobed, readyOf, ackinAt, 
 use Rattle.rules.specs.PortData.{pinBit, pathBit, catches, seenBit, catchesAt, pinsOf, seenOf, directionAt, specialAt, effectiveAt, valueAt, pinsAt, pathAt, seenAt, dataAt}
 use Rattle.rules.specs.Access.{readOf, readsByte}
 use Rattle.rules.specs.Sound.{soundOf}
-use Rattle.rules.specs.Events.{unknown, noRegister, tooLarge, held, noByte, noRoom, codeOf, readEffect, effectOf, answerOf, outcomeOf, eventOf}
+use Rattle.rules.specs.Events.{unknown, noRegister, tooLarge, held, noByte, noRoom, codeOf, readEffect, effectOf, relit, answerOf, outcomeOf, eventOf}
 use Rattle.basics.proofs.Truth.{same}
 use Rattle.basics.proofs.Laws.{below, byte-bits, byte-of, bit-byte}
 use Rattle.basics.proofs.Tests.{left, right, not-so}
@@ -40,7 +40,7 @@ no-bit k l = same _ false (below (λ k. Bool·beq (bit 0 k) false) 8 tt k l)
 -- R of the data of a port that is no input port with handshake
 read-data : (d : Device) → soundOf d ≡ true → reset d ≡ false → (p : ℕ) → p < 2 → inputs (patternAt d p) ≡ false
     → eventOf d (of 2 (0x0D + p) 0 0) .answer .value ≡ dataAt d p
-unfolding eventOf codeOf unknown noRegister tooLarge held noByte noRoom readsByte effectOf readEffect readOf kindOf kindIn outcomeOf answerOf
+unfolding eventOf codeOf unknown noRegister tooLarge held noByte noRoom readsByte effectOf readEffect readOf kindOf kindIn relit outcomeOf answerOf
 read-data d s r =
     each2 (λ p. inputs (patternAt d p) ≡ false → eventOf d (of 2 (0x0D + p) 0 0) .answer .value ≡ dataAt d p) (λ i. simp (s, r, i)) (λ i. simp (s, r, i))
 

@@ -1,46 +1,65 @@
--- Every event takes a sound record of the device's shape to a sound record, from the fresh device on. No range of a number is asked.
+-- Every event takes a sound record of the device's shape to a sound record, from the fresh device on. No range of a number is asked. A clock
+-- keeps all of it but the lines, which the event works out at its end.
 -- Assumes nothing.
 use Prim.Native.Nat.{ℕ}
-use mathlib.Core.Path.{_≡_, refl, sym, _∙_}
+use mathlib.Core.Path.{_≡_, refl, sym, subst, _∙_}
 use mathlib.Core.Bool.{true, true≢false}
 use mathlib.Core.List.{List, [], _∷_}
 use lib.Dec.{lit<}
 use Rattle.rules.specs.declared.Device.{Device}
 use Rattle.rules.specs.declared.Event.{Event}
 use Rattle.rules.specs.declared.Outcome.{Outcome}
+use Rattle.rules.specs.declared.Lines.{Lines}
 use Rattle.rules.specs.declared.Ran.{Ran}
 use Rattle.rules.specs.Record.{Shaped, freshOf, resetOf}
 use Rattle.rules.specs.Step.{clockOf, ranOf}
 use Rattle.basics.specs.Iterate.{iterate}
-use Rattle.rules.specs.Events.{outcomeOf, eventOf}
-use Rattle.rules.specs.Sound.{soundOf}
-use Rattle.basics.proofs.Tests.{not-so}
-use Rattle.theorems.proofs.Clauses.{sound-parts, parts-sound}
-use Rattle.theorems.proofs.Stepless.{reset-sound}
+use Rattle.rules.specs.Events.{relit, outcomeOf, eventOf}
+use Rattle.rules.specs.Interrupts.{linesOf, relined}
+use Rattle.rules.specs.Sound.{sameLines, soundButLines, soundLines, soundOf}
+use Rattle.basics.proofs.Tests.{so-both, not-so}
+use Rattle.theorems.proofs.Equal.{lines-same}
+use Rattle.theorems.proofs.Parts.{Sound}
+use Rattle.theorems.proofs.Clauses.{clauses, sound-parts, parts-sound}
+use Rattle.theorems.proofs.Stepless.{reset-sound, lines-sound}
 use Rattle.theorems.proofs.Accepted.{clock-parts, clocks-parts, ran-parts, effect-parts}
+use Rattle.theorems.proofs.Stored.{relined-true, fresh-lines}
 use Rattle.theorems.proofs.Refusals.{ways, code-is, code-9}
 use Rattle.theorems.proofs.Shapes.{fresh-shaped, event-shaped}
+
+-- sound parts and true lines are a sound record; so is a record of sound parts with its lines worked out
+with-lines : (d : Device) → Sound d → d .lines ≡ linesOf d → soundOf d ≡ true
+unfolding soundOf soundLines
+with-lines d h t = so-both (parts-sound d h) (subst (λ (l : Lines). sameLines (d .lines) l ≡ true) t (lines-same (d .lines)))
+
+relined-sound : (d : Device) → Sound d → soundOf (relined d) ≡ true
+unfolding relined
+relined-sound d h = with-lines (relined d) (lines-sound d (linesOf d) h) (relined-true d)
 
 -- the fresh device is sound
 pub fresh-sound : soundOf freshOf ≡ true
 unfolding resetOf
-fresh-sound = parts-sound freshOf (reset-sound freshOf refl (lit< tt))
+fresh-sound = with-lines freshOf (reset-sound freshOf refl (lit< tt)) fresh-lines
 
--- one clock, n of them, and T n
-pub clock-sound : (s : Ran) → soundOf (s .device) ≡ true → soundOf (clockOf s .device) ≡ true
-clock-sound s h = parts-sound (clockOf s .device) (clock-parts s (sound-parts (s .device) h))
+-- one clock, and n of them
+pub clock-sound : (s : Ran) → soundButLines (s .device) ≡ true → soundButLines (clockOf s .device) ≡ true
+clock-sound s h = parts-sound (clockOf s .device) (clock-parts s (clauses (s .device) h))
 
-pub clocks-sound : (n : ℕ) (s : Ran) → soundOf (s .device) ≡ true → soundOf (iterate n clockOf s .device) ≡ true
-clocks-sound n s h = parts-sound (iterate n clockOf s .device) (clocks-parts n s (sound-parts (s .device) h))
+pub clocks-sound : (n : ℕ) (s : Ran) → soundButLines (s .device) ≡ true → soundButLines (iterate n clockOf s .device) ≡ true
+clocks-sound n s h = parts-sound (iterate n clockOf s .device) (clocks-parts n s (clauses (s .device) h))
 
-pub ran-sound : (n : ℕ) (d : Device) → soundOf d ≡ true → soundOf (ranOf n d .device) ≡ true
-ran-sound n d h = parts-sound (ranOf n d .device) (ran-parts n d (sound-parts d h))
+pub ran-sound : (n : ℕ) (d : Device) → soundButLines d ≡ true → soundButLines (ranOf n d .device) ≡ true
+ran-sound n d h = parts-sound (ranOf n d .device) (ran-parts n d (clauses d h))
+
+-- T n: the lines are worked out after its clocks
+pub ran-relined : (n : ℕ) (d : Device) → soundOf d ≡ true → soundOf (relined (ranOf n d .device)) ≡ true
+ran-relined n d h = relined-sound (ranOf n d .device) (ran-parts n d (sound-parts d h))
 
 -- every event
 pub event-sound : (d : Device) (e : Event) → Shaped d → soundOf d ≡ true → soundOf (eventOf d e .device) ≡ true
-unfolding outcomeOf
+unfolding outcomeOf relit
 event-sound d e k h =
-    ways d e (λ (o : Outcome). soundOf (o .device) ≡ true) (λ _. h) (λ z. parts-sound _ (effect-parts d e z k (sound-parts d h))) (λ _. h)
+    ways d e (λ (o : Outcome). soundOf (o .device) ≡ true) (λ _. h) (λ z. relined-sound _ (effect-parts d e z k (sound-parts d h))) (λ _. h)
 
 -- any events, one after another
 abbrev pub after : Device → List Event → Device

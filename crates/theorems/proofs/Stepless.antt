@@ -1,4 +1,5 @@
--- What changes a sound record without a step keeps it sound: a read, an acknowledge, IEI, the phase; and a reset leaves a sound record.
+-- What changes a sound record without a step keeps it sound: a read, an acknowledge, IEI, the stored lines, the phase; and a reset leaves a
+-- sound record.
 -- Assumes nothing.
 use Prim.Native.Nat.{ℕ, _-_, _/_, _<_}
 use mathlib.Core.Path.{_≡_, refl, ap}
@@ -7,10 +8,11 @@ use native.Mathlib.Omega.{arith}
 use lib.Dec.{eqb, leb}
 use borrow.Author.Tests.{leb-true}
 use Rattle.rules.specs.declared.Device.{Device}
+use Rattle.rules.specs.declared.Lines.{Lines}
 use Rattle.basics.specs.Signs.{within}
 use Rattle.basics.specs.Byte.{bit, every}
 use Rattle.rules.specs.Record.{portAt, patternAt, counterAt, sourceAt, resetOf}
-use Rattle.rules.specs.With.{withCounter, withIei, withPhase, withIus}
+use Rattle.rules.specs.With.{withCounter, withIei, withPhase, withLines, withIus}
 use Rattle.rules.specs.Registers.{reset, portOn, portEnabled}
 use Rattle.rules.specs.Handshakes.{inputs, irfAt}
 use Rattle.rules.specs.Counters.{thawed}
@@ -91,9 +93,9 @@ acknowledge-sound d z h =
       patterns = h .patterns;
     }
 
--- ---- IEI and the phase
-pub iei-sound : (d : Device) (v : Bool) → Sound d → Sound (withIei d v)
-iei-sound d v h =
+-- ---- IEI, the stored lines, the phase: IEI and the lines are in no clause
+aside-sound : (d : Device) (v : Bool) (l : Lines) → Sound d → Sound (withLines (withIei d v) l)
+aside-sound d v l h =
     let b = h .base in
     record {
       base =
@@ -120,9 +122,15 @@ iei-sound d v h =
                   phase = c .phase;
                 };
           };
-      ports = λ p l. port-kept d (withIei d v) refl (λ _. refl) p refl (h .ports p l);
+      ports = λ p i. port-kept d (withLines (withIei d v) l) refl (λ _. refl) p refl (h .ports p i);
       patterns = h .patterns;
     }
+
+pub iei-sound : (d : Device) (v : Bool) → Sound d → Sound (withIei d v)
+iei-sound d v h = aside-sound d v (d .lines) h
+
+pub lines-sound : (d : Device) (l : Lines) → Sound d → Sound (withLines d l)
+lines-sound d l h = aside-sound d (d .iei) l h
 
 pub phase-base : (d : Device) (v : Bool) → reset d ≡ false → Base d → Base (withPhase d v)
 phase-base d v z b =

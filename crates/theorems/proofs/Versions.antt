@@ -21,12 +21,12 @@ use Rattle.rules.specs.With.{withMaster, withPhase}
 use Rattle.rules.specs.Registers.{reset, kindOf, portEnabled, readOnly, laterPortMode, later}
 use Rattle.rules.specs.Handshakes.{inputs, outputs, handshakes, ackinAt}
 use Rattle.rules.specs.Step.{stepOf, ranOf}
-use Rattle.rules.specs.Interrupts.{acknowledged}
+use Rattle.rules.specs.Interrupts.{relined, acknowledged}
 use Rattle.rules.specs.Moves.{heldAt, putAt, worksAt, falls, takenAt, leftAt, movesAt, movesOf, givenAt, storedAt}
 use Rattle.rules.specs.Access.{readsByte, writesByte, afterRead, masterWritten, configWritten, portCommanded, counterCommanded, dataWritten, writtenOf}
 use Rattle.rules.specs.Sound.{soundOf}
 use Rattle.rules.specs.Events.{isX, isW, isR, isP, isT, isK, unknown, noRegister, tooLarge, held, noByte, noRoom, codeOf}
-use Rattle.rules.specs.Events.{writeEffect, readEffect, outsideSet, pinsEffect, clocksEffect, acknowledgeEffect, ieiEffect, effectOf, outcomeOf, eventOf}
+use Rattle.rules.specs.Events.{writeEffect, readEffect, outsideSet, pinsEffect, clocksEffect, acknowledgeEffect, ieiEffect, effectOf, relit, outcomeOf, eventOf}
 use Rattle.basics.proofs.Tests.{left, never, by-test}
 use Rattle.basics.proofs.Places.{each2}
 use Rattle.theorems.specs.Traces.{recordAfter}
@@ -109,7 +109,7 @@ module _ (d : Device) where
 
 -- ---- every event keeps the version, whatever the record
 pub version-kept : (d : Device) (e : Event) → eventOf d e .device .version ≡ d .version
-unfolding outcomeOf
+unfolding outcomeOf relit relined
 version-kept d e = ways d e (λ (o : Outcome). o .device .version ≡ d .version) (λ _. refl) (λ _. effect-kept d e) (λ _. refl)
 
 -- and so do any events, one after another

@@ -201,11 +201,11 @@ levels-line d = simp length-append (omega arith)
 request-line : (k : ℕ) → length (requestLine k) ≤ textRoom
 unfolding requestLine spelled
 request-line k =
-    pick textRoom (k == 0) _ _ (omega arith)
-    (pick textRoom (k == 1) _ _ (omega arith)
+    pick textRoom (k == 1) _ _ (omega arith)
     (pick textRoom (k == 2) _ _ (omega arith)
     (pick textRoom (k == 3) _ _ (omega arith)
-    (pick textRoom (k == 4) _ _ (omega arith) (omega arith)))))
+    (pick textRoom (k == 4) _ _ (omega arith)
+    (pick textRoom (k == 5) _ _ (omega arith) (omega arith)))))
 
 acknowledge-line : (d : Device) → length (acknowledgeLine d) ≤ textRoom
 unfolding acknowledgeLine spelled

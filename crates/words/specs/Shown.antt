@@ -17,7 +17,7 @@ use Rattle.rules.specs.Record.{portAt, patternAt, transferAt, counterAt, source
 use Rattle.rules.specs.Registers.{portEnabled, counterEnabled, lc}
 use Rattle.rules.specs.Counters.{continuous, outputEnabled, countInput, triggerInput, gateInput, retrigger, outputOf}
 use Rattle.rules.specs.PortData.{pinsAt}
-use Rattle.rules.specs.Interrupts.{requester, intOf, ieoOf, acknowledge}
+use Rattle.rules.specs.Interrupts.{requester, acknowledge}
 use Rattle.texts.specs.Answers.{lineFeed}
 use Rattle.texts.specs.Spelled.{spelled}
 use Rattle.words.specs.Cells.{bitCell, yesCell, byteCell, numberCell}
@@ -218,18 +218,18 @@ sourceLine d row =
 -- ---- the lines, who requests, and what K would give
 unfoldable pub levelsLine : Device → List ℕ
 levelsLine d =
-    named (spelled "lines           INT ") (intOf d) ++ named (spelled "  IEO ") (ieoOf d) ++ named (spelled "  IEI ") (d .iei)
+    named (spelled "lines           INT ") (d .lines .int) ++ named (spelled "  IEO ") (d .lines .ieo) ++ named (spelled "  IEI ") (d .iei)
     ++ named (spelled "  phase ") (d .phase) ++ lineEnd
 
 -- "Order: CT3, A, CT2, B, CT1."
 unfoldable pub requestLine : ℕ → List ℕ
 requestLine k =
-    if k == 0 then spelled "requesting      CT3\n" else
-    if k == 1 then spelled "requesting      port A\n" else
-    if k == 2 then spelled "requesting      CT2\n" else
-    if k == 3 then spelled "requesting      port B\n" else
-    if k == 4 then spelled "requesting      CT1\n" else
-    spelled "requesting      nobody\n"
+    if k == 1 then spelled "requesting      place 1, CT3\n" else
+    if k == 2 then spelled "requesting      place 2, port A\n" else
+    if k == 3 then spelled "requesting      place 3, CT2\n" else
+    if k == 4 then spelled "requesting      place 4, port B\n" else
+    if k == 5 then spelled "requesting      place 5, CT1\n" else
+    spelled "requesting      place 0, nobody\n"
 
 -- "6 | K with no source requesting"
 unfoldable pub acknowledgeLine : Device → List ℕ
@@ -245,7 +245,7 @@ headLine d n =
     spelled "port                       A           B           C\n"
 
 unfoldable pub tailLine : Device → ℕ → List ℕ
-tailLine d n = if n == 0 then levelsLine d else if n == 1 then requestLine (requester d) else acknowledgeLine d
+tailLine d n = if n == 0 then levelsLine d else if n == 1 then requestLine (d .lines .place) else acknowledgeLine d
 
 -- the first line of each
 abbrev pub firstPort : ℕ

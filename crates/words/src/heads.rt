@@ -66,26 +66,24 @@ pub(crate) fn link_line(lc: u8) -> Text
 pub(crate) fn levels_line(d: Device) -> Text
     ensures { λ r. ⌜ r ≡ typed noText (levelsLine d) ⌝ }
 {
-    let int = interrupts::int(d);
-    let ieo = interrupts::ieo(d);
-    let t1 = named(texts::no_text(), b"lines           INT ", int);
-    let t2 = named(t1, b"  IEO ", ieo);
+    let t1 = named(texts::no_text(), b"lines           INT ", d.lines.int);
+    let t2 = named(t1, b"  IEO ", d.lines.ieo);
     let t3 = named(t2, b"  IEI ", d.iei);
     push(named(t3, b"  phase ", d.phase), b'\n')
 }
 
-// Who requests: a place in the order of the sources, or 5.
-pub(crate) fn request_line(k: usize) -> Text
+// Who requests: the place as it is stored.
+pub(crate) fn request_line(k: u8) -> Text
     ensures { λ r. ⌜ r ≡ typed noText (requestLine k) ⌝ }
 {
     let t = texts::no_text();
     match k {
-        0 => word(t, b"requesting      CT3\n"),
-        1 => word(t, b"requesting      port A\n"),
-        2 => word(t, b"requesting      CT2\n"),
-        3 => word(t, b"requesting      port B\n"),
-        4 => word(t, b"requesting      CT1\n"),
-        _ => word(t, b"requesting      nobody\n"),
+        1 => word(t, b"requesting      place 1, CT3\n"),
+        2 => word(t, b"requesting      place 2, port A\n"),
+        3 => word(t, b"requesting      place 3, CT2\n"),
+        4 => word(t, b"requesting      place 4, port B\n"),
+        5 => word(t, b"requesting      place 5, CT1\n"),
+        _ => word(t, b"requesting      place 0, nobody\n"),
     }
 }
 

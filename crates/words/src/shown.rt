@@ -62,7 +62,7 @@ fn tail_line(d: Device, n: usize) -> Text
 {
     match n {
         0 => levels_line(d),
-        1 => request_line(interrupts::requester_of(d)),
+        1 => request_line(d.lines.place),
         _ => acknowledge_line(d),
     }
 }

@@ -17,15 +17,25 @@ returns c = simp (← c .before .before .code-of .ensures, eq-eqb _ _ (c .before
 effect-of-requires : tie.Need-effect-of-requires
 effect-of-requires c κs = search needs
 
+relit-requires : tie.Need-relit-requires
+relit-requires c κs = search needs
+
 outcome-requires : tie.Need-outcome-requires
 outcome-requires c κs = search needs
 
 returns-2 : tie.Need-returns-2
 unfolding eventOf
 returns-2 c =
-    let at-if2 = c .before .before in
-    simp
-    (← at-if2 .before .before .code-of .ensures, ne-eqb _ _ (at-if2 .before .if1 .left), eq-eqb _ _ (at-if2 .if2 .taken), c .before .effect-of .ensures, c .outcome .ensures)
+    let at-effect = c .before .before in
+    let at-if2 = at-effect .before in
+    simp (
+      ← at-if2 .before .before .code-of .ensures,
+      ne-eqb _ _ (at-if2 .before .if1 .left),
+      eq-eqb _ _ (at-if2 .if2 .taken),
+      at-effect .effect-of .ensures,
+      c .before .relit .ensures,
+      c .outcome .ensures,
+    )
 
 effect-requires : tie.Need-effect-requires
 effect-requires c κs = search needs
@@ -47,6 +57,7 @@ event-spec =
     unsound-requires
     returns
     effect-of-requires
+    relit-requires
     outcome-requires
     returns-2
     effect-requires

@@ -17,13 +17,24 @@ read-lines-requires c κs = tt
 read-transfers-requires : tie.Need-read-transfers-requires
 read-transfers-requires c κs = tt
 
+relined-requires : tie.Need-relined-requires
+relined-requires c κs = tt
+
 returns : tie.Need-returns
 unfolding recordIn
 returns c =
-    let lines = c .before in
+    let transfers = c .before in
+    let lines = transfers .before in
     let pins = lines .before in
     let counts = pins .before in
-    simp (c .read-transfers .ensures, lines .read-lines .ensures, pins .read-pins .ensures, counts .read-counts .ensures, counts .before .read-registers .ensures)
+    simp (
+      c .relined .ensures,
+      transfers .read-transfers .ensures,
+      lines .read-lines .ensures,
+      pins .read-pins .ensures,
+      counts .read-counts .ensures,
+      counts .before .read-registers .ensures,
+    )
 
 pub device-spec : {M : Type 1} → statement M
 device-spec =
@@ -34,4 +45,5 @@ device-spec =
     read-pins-requires
     read-lines-requires
     read-transfers-requires
+    relined-requires
     returns)

@@ -26,7 +26,7 @@ way-write-given-e-3 c = search needs
 
 returns : tie.Need-returns
 unfolding resetOf
-returns c = simp (c .before .before .before .fresh .ensures)
+returns c = simp (c .before .before .before .before .fresh .ensures)
 
 pub reset-spec : {M : Type 1} → statement M
 reset-spec =

@@ -21,6 +21,9 @@ same-counters-requires c κs = search needs
 same-sources-requires : tie.Need-same-sources-requires
 same-sources-requires c κs = search needs
 
+same-lines-requires : tie.Need-same-lines-requires
+same-lines-requires c κs = search needs
+
 returns : tie.Need-returns
 unfolding sameOf
 returns c =
@@ -30,13 +33,15 @@ returns c =
     let b13 = b12 .before in
     let b14 = b13 .before in
     let b15 = b14 .before in
+    let b16 = b15 .before in
     simp (
-      b15 .same-vectors .ensures,
-      b14 .same-ports .ensures,
-      b13 .same-patterns .ensures,
-      b12 .same-transfers .ensures,
-      b11 .same-counters .ensures,
-      b10 .same-sources .ensures,
+      b16 .same-vectors .ensures,
+      b15 .same-ports .ensures,
+      b14 .same-patterns .ensures,
+      b13 .same-transfers .ensures,
+      b12 .same-counters .ensures,
+      b11 .same-sources .ensures,
+      b10 .same-lines .ensures,
     )
 
 pub same-spec : {M : Type 1} → statement M
@@ -49,4 +54,5 @@ same-spec =
     same-transfers-requires
     same-counters-requires
     same-sources-requires
+    same-lines-requires
     returns)

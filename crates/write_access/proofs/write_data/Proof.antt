@@ -67,13 +67,8 @@ unfolding dataWritten
 returns-2 c =
     let at-direction = c .before in
     let at-if = at-direction .before .before in
-    simp (
-      ← at-if .before .port-enabled .ensures,
-      ← at-if .before .before .outputs-at .ensures,
-      at-if .if1 .left,
-      c .put .ensures,
-      at-direction .direction-at .ensures,
-    )
+    simp (← at-if .before .port-enabled .ensures, ← at-if .before .before .outputs-at .ensures, at-if .if1 .left)
+    (simp (c .put .ensures, at-direction .direction-at .ensures))
 
 pub write-data-spec : {M : Type 1} → statement M
 write-data-spec =

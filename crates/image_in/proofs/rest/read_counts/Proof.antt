@@ -27,7 +27,7 @@ sources-with-requires c κs = tt
 returns : tie.Need-returns
 unfolding countsIn
 returns c =
-    let sources = c .before .before .before .before in
+    let sources = c .before .before .before .before .before in
     let of-3 = sources .before in
     let of-2 = of-3 .before .before in
     simp (sources .sources-with .ensures, of-3 .counter-with3 .ensures, of-2 .counter-with2 .ensures, of-2 .before .before .counter-with .ensures)

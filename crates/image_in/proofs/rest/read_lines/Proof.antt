@@ -12,7 +12,7 @@ bit-at-requires-2 c κs = search needs
 returns : tie.Need-returns
 unfolding linesIn
 returns c =
-    let read = c .before .before .before .before .before .before in
+    let read = c .before .before .before .before .before .before .before in
     simp (read .bit-at2 .ensures, read .before .bit-at .ensures)
 
 pub read-lines-spec : {M : Type 1} → statement M

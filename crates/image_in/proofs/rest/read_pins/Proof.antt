@@ -11,7 +11,7 @@ hidden-with-requires c κs = tt
 returns : tie.Need-returns
 unfolding pinsIn
 returns c =
-    let sources = c .before .before .before .before in
+    let sources = c .before .before .before .before .before in
     simp (sources .hidden-with .ensures, sources .before .ports-with .ensures)
 
 pub read-pins-spec : {M : Type 1} → statement M

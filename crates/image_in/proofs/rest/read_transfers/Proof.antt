@@ -12,7 +12,7 @@ transfer-in-requires-2 c κs = search needs
 returns : tie.Need-returns
 unfolding transfersIn
 returns c =
-    let both = c .before .before .before .before .before in
+    let both = c .before .before .before .before .before .before in
     simp (both .transfer-in2 .ensures, both .before .transfer-in .ensures)
 
 pub read-transfers-spec : {M : Type 1} → statement M

@@ -3,6 +3,7 @@ use native.Mathlib.Omega.{arith}
 use borrow.Author.Needs.{needs}
 use Rattle.rules.specs.declared.Device.{Device}
 use Rattle.rules.specs.Record.{sourceAt}
+use Rattle.rules.specs.Interrupts.{relined}
 use Rattle.measure.specs.Measure.{waitAt}
 use Rattle.measure.proofs.Over.{at-first, over-standing, over-rise, over-none}
 use Rattle.measure.proofs.steps.over.Statement.{statement}
@@ -32,6 +33,7 @@ element-copy-out-if2 : tie.Need-element-copy-out-if2
 element-copy-out-if2 c = search needs
 
 rise-requires : tie.Need-rise-requires
+unfolding relined
 rise-requires c κs =
     let at-start = c .before .before .before in
     let a = at-start .args in
@@ -53,6 +55,7 @@ dropped-requires : tie.Need-dropped-requires
 dropped-requires c κs = search needs
 
 returns-3 : tie.Need-returns-3
+unfolding relined
 returns-3 c =
     let at-start = c .before .before .before .before in
     let a = at-start .args in

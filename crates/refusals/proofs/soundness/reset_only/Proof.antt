@@ -15,7 +15,9 @@ same-requires c κs = search needs
 
 returns : tie.Need-returns
 unfolding resetOnly
-returns c = simp (sym (c .before .before .before .reset .ensures) ∙ c .before .before .if1 .taken, c .same .ensures, c .before .reset2 .ensures)
+returns c =
+    let at-reset = c .before .before in
+    simp (sym (at-reset .before .before .reset .ensures) ∙ at-reset .before .if1 .taken, c .same .ensures, at-reset .reset2 .ensures)
 
 returns-2 : tie.Need-returns-2
 unfolding resetOnly

@@ -17,10 +17,23 @@ idle-requires c κs = search needs
 quiet-requires : tie.Need-quiet-requires
 quiet-requires c κs = search needs
 
+silent-requires : tie.Need-silent-requires
+silent-requires c κs = search needs
+
 returns : tie.Need-returns
-returns c = simp (c .before .before .before .before .bare .ensures, c .before .before .before .blank .ensures, c .before .before .vacant .ensures, c .before .idle .ensures, c .quiet .ensures)
+returns c =
+    let at-idle = c .before .before in
+    let at-blank = at-idle .before .before in
+    simp (
+      at-blank .before .bare .ensures,
+      at-blank .blank .ensures,
+      at-idle .before .vacant .ensures,
+      at-idle .idle .ensures,
+      c .before .quiet .ensures,
+      c .silent .ensures,
+    )
 
 pub fresh-spec : {M : Type 1} → statement M
 fresh-spec =
     tie.close
-    (tie.spec bare-requires blank-requires vacant-requires idle-requires quiet-requires returns)
+    (tie.spec bare-requires blank-requires vacant-requires idle-requires quiet-requires silent-requires returns)

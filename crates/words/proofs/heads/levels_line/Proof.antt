@@ -6,12 +6,6 @@ use Rattle.texts.proofs.Typing.{typed-append}
 use Rattle.words.proofs.heads.levels_line.Statement.{statement}
 use Rattle.words.proofs.heads.levels_line.Tie as tie
 
-int-requires : tie.Need-int-requires
-int-requires c κs = search needs
-
-ieo-requires : tie.Need-ieo-requires
-ieo-requires c κs = search needs
-
 no-text-requires : tie.Need-no-text-requires
 no-text-requires c κs = search needs
 
@@ -58,16 +52,12 @@ returns c =
       at-ieo .named2 .ensures,
       at-int .named .ensures,
       at-none .no-text .ensures,
-      at-none .before .ieo .ensures,
-      at-none .before .before .int .ensures,
     )
 
 pub levels-line-spec : {M : Type 1} → statement M
 levels-line-spec =
     tie.close
     (tie.spec
-    int-requires
-    ieo-requires
     no-text-requires
     slice-aggregate-named
     named-requires

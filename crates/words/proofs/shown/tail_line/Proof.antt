@@ -7,9 +7,6 @@ use Rattle.words.proofs.shown.tail_line.Tie as tie
 levels-line-requires : tie.Need-levels-line-requires
 levels-line-requires c κs = search needs
 
-requester-of-requires : tie.Need-requester-of-requires
-requester-of-requires c κs = search needs
-
 request-line-requires : tie.Need-request-line-requires
 request-line-requires c κs = search needs
 
@@ -22,7 +19,7 @@ returns c = simp (c .levels-line .ensures, c .before .match .keys1)
 
 returns-2 : tie.Need-returns-2
 unfolding tailLine
-returns-2 c = simp (c .request-line .ensures, c .before .requester-of .ensures .0, c .before .before .match .keys2)
+returns-2 c = simp (c .request-line .ensures, c .before .match .keys2)
 
 returns-3 : tie.Need-returns-3
 unfolding tailLine
@@ -33,7 +30,6 @@ tail-line-spec =
     tie.close
     (tie.spec
     levels-line-requires
-    requester-of-requires
     request-line-requires
     acknowledge-line-requires
     returns
