@@ -213,7 +213,6 @@ moves-around d0 d1 k =
       left = refl;
     })
 
--- and so is the step
 -- the lines that are stored after an event are no part of it
 pub relined-alike : (d : Device) → Alike d (relined d)
 unfolding relined
@@ -241,6 +240,7 @@ relined-around {p} {d0} {d1} {f} a =
       left = relined-transfer f p ∙ a .left;
     }
 
+-- and so is the step
 pub step-around : (d0 d1 : Device) → Shaped d1 → (p : ℕ) → p < 2 → Around p d0 d1 (stepOf false d0 (movesOf d0 d1) .device)
 step-around d0 d1 k p l =
     let a = moves-around d0 d1 k p l in

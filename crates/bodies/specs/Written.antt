@@ -1,4 +1,5 @@
--- Paper 01, "The image", and paper 02, W-205: the bodies of a record, byte for byte, and its image. Every field of the record stands in one of them:
+-- Paper 01, "The image", and paper 02, W-205: the bodies of a record, byte for byte, and its image. Every field of the record stands in one of them, but
+-- for the stored lines, which are worked out (W-208):
 --
 --   | field                                               | body                                   |
 --   |-----------------------------------------------------|----------------------------------------|

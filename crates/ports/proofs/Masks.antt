@@ -178,7 +178,7 @@ sound-bits f c x hc hx =
       inside (bitAnd (byteOf f) x) c (λ k. not (f k && bit x k) || bit c k) (and-lt 8 _ _ (byte-lt f) hx) hc (λ k h. simp (bit-and, bit-byte f k h)),
     )
 
--- ---- the lines of the ports with handshake, at the places f of Port C: the even bits are inputs, the odd ones show ready
+-- ---- the lines of the ports with handshake, at the places f of Port C: the even bits are inputs, the odd ones show ready or available
 even : (k : ℕ) → k < 8 → bit 0x55 k ≡ eqb (k % 2) 0
 even k h = same _ _ (below (λ k. Bool·beq (bit 0x55 k) (eqb (k % 2) 0)) 8 tt k h)
 
