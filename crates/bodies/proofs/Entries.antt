@@ -10,40 +10,39 @@ use lib.Dec.{lit<}
 use lib.ListN.{length, take, drop, length-append, length-drop}
 use lib.Seq.{take-at, drop-at, take-add, length-take-le, getD-drop}
 use Rattle.basics.specs.Signs.{if_then_else_, _==_}
-use Rattle.rules.specs.declared.Device.{Device}
 use Rattle.bodies.specs.Layout.{Entry, offsetFrom, sizeIn, sizesFrom, part}
-use Rattle.bodies.specs.Written.{bodyOf, bodiesFrom}
+use Rattle.bodies.specs.Written.{bodiesFrom}
 use Rattle.bodies.specs.Taken.{Bytes}
 
 -- ---- out
-module _ (d : Device) where
+module _ (body : ℕ → List ℕ) where
   -- the entries say how long their bodies are
   abbrev pub Sized : List Entry → Type 0
   Sized [] = Unit {0}
-  Sized (e ∷ es) = (length (bodyOf d (e .id)) ≡ e .size) × Sized es
+  Sized (e ∷ es) = (length (body (e .id)) ≡ e .size) × Sized es
 
   -- the body of an id, if one of the entries has it
   abbrev pub bodyAmong : List Entry → ℕ → List ℕ
   bodyAmong [] id = []
-  bodyAmong (e ∷ es) id = if e .id == id then bodyOf d (e .id) else bodyAmong es id
+  bodyAmong (e ∷ es) id = if e .id == id then body (e .id) else bodyAmong es id
 
-  pub bodies-length : (es : List Entry) → Sized es → length (bodiesFrom d es) ≡ sizesFrom es
+  pub bodies-length : (es : List Entry) → Sized es → length (bodiesFrom body es) ≡ sizesFrom es
   bodies-length [] s = refl
-  bodies-length (e ∷ es) s = length-append (bodyOf d (e .id)) (bodiesFrom d es) ∙ ap₂ _+_ (s .0) (bodies-length es (s .1))
+  bodies-length (e ∷ es) s = length-append (body (e .id)) (bodiesFrom body es) ∙ ap₂ _+_ (s .0) (bodies-length es (s .1))
 
   pub found : (xs : List ℕ) (o : ℕ) (es : List Entry) (id : ℕ) → length xs ≡ o → Sized es
-      → part (offsetFrom o es id) (sizeIn es id) (xs ++ bodiesFrom d es) ≡ bodyAmong es id
+      → part (offsetFrom o es id) (sizeIn es id) (xs ++ bodiesFrom body es) ≡ bodyAmong es id
   found xs o [] id n s = refl
-  found xs o (e ∷ es) id n s = here (e .id == id) (found (xs ++ bodyOf d (e .id)) (o + e .size) es id further (s .1))
+  found xs o (e ∷ es) id n s = here (e .id == id) (found (xs ++ body (e .id)) (o + e .size) es id further (s .1))
     where
-      further : length (xs ++ bodyOf d (e .id)) ≡ o + e .size
-      further = length-append xs (bodyOf d (e .id)) ∙ ap₂ _+_ n (s .0)
+      further : length (xs ++ body (e .id)) ≡ o + e .size
+      further = length-append xs (body (e .id)) ∙ ap₂ _+_ n (s .0)
 
-      here : (t : Bool) → part (offsetFrom (o + e .size) es id) (sizeIn es id) (xs ++ bodyOf d (e .id) ++ bodiesFrom d es) ≡ bodyAmong es id
-          → part (cond t o (offsetFrom (o + e .size) es id)) (cond t (e .size) (sizeIn es id)) (xs ++ (bodyOf d (e .id) ++ bodiesFrom d es))
-          ≡ cond t (bodyOf d (e .id)) (bodyAmong es id)
-      here true h = ap (take (e .size)) (drop-at xs (bodyOf d (e .id) ++ bodiesFrom d es) o n) ∙ take-at (bodyOf d (e .id)) (bodiesFrom d es) (e .size) (s .0)
-      here false h = ap (part (offsetFrom (o + e .size) es id) (sizeIn es id)) (sym (append-assoc xs (bodyOf d (e .id)) (bodiesFrom d es))) ∙ h
+      here : (t : Bool) → part (offsetFrom (o + e .size) es id) (sizeIn es id) (xs ++ body (e .id) ++ bodiesFrom body es) ≡ bodyAmong es id
+          → part (cond t o (offsetFrom (o + e .size) es id)) (cond t (e .size) (sizeIn es id)) (xs ++ (body (e .id) ++ bodiesFrom body es))
+          ≡ cond t (body (e .id)) (bodyAmong es id)
+      here true h = ap (take (e .size)) (drop-at xs (body (e .id) ++ bodiesFrom body es) o n) ∙ take-at (body (e .id)) (bodiesFrom body es) (e .size) (s .0)
+      here false h = ap (part (offsetFrom (o + e .size) es id) (sizeIn es id)) (sym (append-assoc xs (body (e .id)) (bodiesFrom body es))) ∙ h
 
 -- ---- in: a part of a list of bytes
 bytes-take : (n : ℕ) (s : List ℕ) → Bytes s → Bytes (take n s)

@@ -1,7 +1,7 @@
 -- Parts laid one after the other over the front of a buffer that has room for them.
 -- Assumes nothing.
 use Prim.Native.Nat.{ℕ, _+_, _≤_}
-use mathlib.Core.Path.{_≡_, refl, sym, ap, _∙_}
+use mathlib.Core.Path.{_≡_, refl, sym, ap, subst, _∙_}
 use mathlib.Core.List.{List, [], _++_}
 use native.Mathlib.Omega.{arith}
 use lib.ListN.{length, drop, length-append, length-drop}
@@ -38,3 +38,8 @@ more {e} {xs} {f} {g} {n} ys m hm room l q = pasted ys m hm l (q ∙ laid-fits f
 
     fit : n + length ys ≤ length f
     fit = omega (arith, whole, l .long, length-drop n e)
+
+-- the same up to a place that is named
+pub next : {e xs f g : List ℕ} {n : ℕ} (ys : List ℕ) (m k : ℕ) → length ys ≡ m → n + m ≡ k → k ≤ length e → Laid e xs f n → g ≡ laidOf f n ys → Laid e (xs ++ ys) g k
+next {e} {xs} {f} {g} {n} ys m k hm hk room l q =
+    subst (λ (j : ℕ). Laid e (xs ++ ys) g j) hk (more ys m hm (subst (λ (j : ℕ). j ≤ length e) (sym hk) room) l q)

@@ -8,4 +8,5 @@ pub mod RegistersLaw
 pub mod CountsLaw
 pub mod PinsLaw
 pub mod LinesLaw
+pub mod PointerLaw
 pub mod Whole

@@ -22,7 +22,7 @@ use Rattle.rules.specs.Registers.{kindOf, kindIn, portKind}
 use Rattle.rules.specs.Access.{portCommand, counterCommand, readOf}
 use Rattle.bodies.specs.Layout.{Layout, layout1, layout2, layoutOf, layoutIn, contentsLen, offsetOf, sizeOf, lengthOf, contentsOf, bodyIn}
 use Rattle.bodies.specs.declared.Bodies.{Bodies}
-use Rattle.bodies.specs.Written.{savedByte, registersFrom, registersBody, flagsOf, countsBody, hiddenOf, pinsBody, linesBody, transfersBody, bodiesOf, bodiesFrom, imageOf}
+use Rattle.bodies.specs.Written.{savedByte, registersFrom, registersBody, flagsOf, countsBody, hiddenOf, pinsBody, linesBody, transfersBody, bodiesOf, bodyOf, bodiesFrom, imageOf}
 use Rattle.bodies.specs.Taken.{Bytes, registersIn, countsIn, pinsIn, linesIn, transfersIn, recordIn, deviceIn}
 use Rattle.bodies.specs.Taken.{registersClear, countsClear, pinsClear, linesClear, transfersClear, unusedClear, statesAgree, clearIn}
 use Rattle.basics.proofs.Tests.{by-test}
@@ -53,39 +53,39 @@ module _ (d : Device) where
   contents-long : length (contentsOf layout) ≡ contentsLen layout
   contents-long = of-record (λ l. length (contentsOf l) ≡ contentsLen l) refl refl d
 
-  sized : Sized d (layout .entries)
+  sized : Sized (bodyOf d) (layout .entries)
   unfolding registersBody registersFrom countsBody pinsBody linesBody transfersBody
-  sized = of-record (λ l. Sized d (l .entries)) (refl, (refl, (refl, (refl, tt)))) (refl, (refl, (refl, (refl, (refl, tt))))) d
+  sized = of-record (λ l. Sized (bodyOf d) (l .entries)) (refl, (refl, (refl, (refl, tt)))) (refl, (refl, (refl, (refl, (refl, tt))))) d
 
   pub image-length : length (imageOf d) ≡ lengthOf layout
   unfolding imageOf
   image-length =
-      length-append (contentsOf layout) (bodiesFrom d (layout .entries)) ∙ ap₂ _+_ contents-long (bodies-length d (layout .entries) sized)
+      length-append (contentsOf layout) (bodiesFrom (bodyOf d) (layout .entries)) ∙ ap₂ _+_ contents-long (bodies-length (bodyOf d) (layout .entries) sized)
 
   pub image-contents : take (contentsLen layout) (imageOf d) ≡ contentsOf layout
   unfolding imageOf
-  image-contents = take-at (contentsOf layout) (bodiesFrom d (layout .entries)) (contentsLen layout) contents-long
+  image-contents = take-at (contentsOf layout) (bodiesFrom (bodyOf d) (layout .entries)) (contentsLen layout) contents-long
 
   -- the first byte tells the layout
   pub image-layout : layoutIn (imageOf d) ≡ layout
   unfolding imageOf layoutIn
-  image-layout = of-record (λ l. layoutIn (contentsOf l ++ bodiesFrom d (l .entries)) ≡ l) refl refl d
+  image-layout = of-record (λ l. layoutIn (contentsOf l ++ bodiesFrom (bodyOf d) (l .entries)) ≡ l) refl refl d
 
-  placed : (id : ℕ) → bodyIn layout id (imageOf d) ≡ bodyAmong d (layout .entries) id
+  placed : (id : ℕ) → bodyIn layout id (imageOf d) ≡ bodyAmong (bodyOf d) (layout .entries) id
   unfolding imageOf
-  placed id = found d (contentsOf layout) (contentsLen layout) (layout .entries) id contents-long sized
+  placed id = found (bodyOf d) (contentsOf layout) (contentsLen layout) (layout .entries) id contents-long sized
 
   pub body-1 : bodyIn layout 1 (imageOf d) ≡ registersBody d
-  body-1 = placed 1 ∙ of-record (λ l. bodyAmong d (l .entries) 1 ≡ registersBody d) refl refl d
+  body-1 = placed 1 ∙ of-record (λ l. bodyAmong (bodyOf d) (l .entries) 1 ≡ registersBody d) refl refl d
 
   pub body-2 : bodyIn layout 2 (imageOf d) ≡ countsBody d
-  body-2 = placed 2 ∙ of-record (λ l. bodyAmong d (l .entries) 2 ≡ countsBody d) refl refl d
+  body-2 = placed 2 ∙ of-record (λ l. bodyAmong (bodyOf d) (l .entries) 2 ≡ countsBody d) refl refl d
 
   pub body-3 : bodyIn layout 3 (imageOf d) ≡ pinsBody d
-  body-3 = placed 3 ∙ of-record (λ l. bodyAmong d (l .entries) 3 ≡ pinsBody d) refl refl d
+  body-3 = placed 3 ∙ of-record (λ l. bodyAmong (bodyOf d) (l .entries) 3 ≡ pinsBody d) refl refl d
 
   pub body-4 : bodyIn layout 4 (imageOf d) ≡ linesBody d
-  body-4 = placed 4 ∙ of-record (λ l. bodyAmong d (l .entries) 4 ≡ linesBody d) refl refl d
+  body-4 = placed 4 ∙ of-record (λ l. bodyAmong (bodyOf d) (l .entries) 4 ≡ linesBody d) refl refl d
 
 -- one behind the other, as they are laid
 pub image-laid-1 : (d : Device) → layoutOf d ≡ layout1 → contentsOf layout1 ++ registersBody d ++ countsBody d ++ pinsBody d ++ linesBody d ≡ imageOf d
@@ -110,7 +110,7 @@ version-told d (inr e) = simp (e .0)
 abbrev Fifth : Device → List ℕ → Type 0
 Fifth d b = (transfersClear b ≡ true) × Tells b d
 
-fifth-among : (d : Device) → Versioned d → Fifth d (bodyAmong d (layoutOf d .entries) 5)
+fifth-among : (d : Device) → Versioned d → Fifth d (bodyAmong (bodyOf d) (layoutOf d .entries) 5)
 unfolding layoutOf
 fifth-among d (inl e) = simp e (transfers-clear d, transfers-tell d)
 fifth-among d (inr e) = simp (e .0) (refl, nothing-told d (e .1))
@@ -238,7 +238,7 @@ module _ (l : Layout) (s : List ℕ) (h : Bytes s) (c : clearIn l s ≡ true) wh
 
 -- ---- all of them, in each layout
 abbrev Kept : List ℕ → Layout → Type 0
-Kept s l = clearIn l s ≡ true → length s ≡ lengthOf l → bodiesFrom (deviceIn l s) (l .entries) ≡ partsFrom (contentsLen l) (l .entries) s
+Kept s l = clearIn l s ≡ true → length s ≡ lengthOf l → bodiesFrom (bodyOf (deviceIn l s)) (l .entries) ≡ partsFrom (contentsLen l) (l .entries) s
 
 kept-old : (s : List ℕ) → Bytes s → Kept s layout1
 kept-old s h c n =
@@ -272,7 +272,7 @@ unfolding imageOf
 written-back s n h c t =
     let l = layoutIn s in
     let d = deviceIn l s in
-    ap (λ (k : Layout). contentsOf k ++ bodiesFrom d (k .entries)) (layout-kept s)
+    ap (λ (k : Layout). contentsOf k ++ bodiesFrom (bodyOf d) (k .entries)) (layout-kept s)
     ∙ ap₂ _++_ (sym t) (of-image (Kept s) (kept-old s h) (kept-new s h) s c n)
     ∙ together (contentsLen l) (l .entries) s
     ∙ take-all (lengthOf l) s (omega arith)

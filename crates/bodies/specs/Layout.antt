@@ -12,8 +12,9 @@ pub record Entry : Type 0 where
   pub id : ℕ
   pub size : ℕ
 
--- a layout: the image's first byte, and the bodies in the order in which they stand
+-- a layout: the image's first byte, the version of the record that it holds, and the bodies in the order in which they stand
 pub record Layout : Type 0 where
+  pub first : ℕ
   pub version : ℕ
   pub entries : List Entry
 
@@ -22,15 +23,20 @@ entry i n = record { id = i; size = n }
 
 -- "byte 01, byte 04, four entries .. 1, 18, 48; 2, 66, 9; 3, 75, 7; 4, 82, 2": the offsets are worked out
 abbrev pub layout1 : Layout
-layout1 = record { version = 0x01; entries = entry 1 48 ∷ entry 2 9 ∷ entry 3 7 ∷ entry 4 2 ∷ [] }
+layout1 = record { first = 0x01; version = 1; entries = entry 1 48 ∷ entry 2 9 ∷ entry 3 7 ∷ entry 4 2 ∷ [] }
 
 -- paper 02, W-205: "Image version 2, first bytes 02 and 05", with "a fifth body for the handshake ports": "Its bodies stand at 22, 70,
 -- 79, 86 and 88; the fifth has 8 bytes"
 abbrev pub layout2 : Layout
-layout2 = record { version = 0x02; entries = entry 1 48 ∷ entry 2 9 ∷ entry 3 7 ∷ entry 4 2 ∷ entry 5 8 ∷ [] }
+layout2 = record { first = 0x02; version = 2; entries = entry 1 48 ∷ entry 2 9 ∷ entry 3 7 ∷ entry 4 2 ∷ entry 5 8 ∷ [] }
 
--- the layout in which a device is saved, and the one in which an image is read: "an unknown first byte counts as version 1". All that
--- depends on the layout is reached through these two.
+-- W-209: the Z8536's image, "first bytes 03 and 06, is version 2's bodies four bytes on and a sixth of two bytes, pointer and state:
+-- 102 bytes"; "Otherwise it is a version 2 device."
+abbrev pub layout3 : Layout
+layout3 = record { first = 0x03; version = 2; entries = entry 1 48 ∷ entry 2 9 ∷ entry 3 7 ∷ entry 4 2 ∷ entry 5 8 ∷ entry 6 2 ∷ [] }
+
+-- the layout in which a Z8036 is saved, and the one in which its image is read: "an unknown first byte counts as version 1", the
+-- Z8536's too. All that depends on its layout is reached through these two.
 unfoldable pub layoutOf : Device → Layout
 layoutOf d = if d .version == 1 then layout1 else layout2
 
@@ -72,7 +78,7 @@ tableFrom l [] = []
 tableFrom l (e ∷ es) = e .id ∷ offsetOf l (e .id) / 256 ∷ offsetOf l (e .id) % 256 ∷ e .size ∷ tableFrom l es
 
 abbrev pub contentsOf : Layout → List ℕ
-contentsOf l = l .version ∷ length (l .entries) ∷ tableFrom l (l .entries)
+contentsOf l = l .first ∷ length (l .entries) ∷ tableFrom l (l .entries)
 
 -- a part of an image; "Each body is read from the middle of the image, at its entry's offset."
 abbrev pub part : ℕ → ℕ → List ℕ → List ℕ

@@ -151,6 +151,13 @@ transferIn b p =
 unfoldable pub transfersIn : Device → List ℕ → Device
 transfersIn d b = withTransfers d (transferIn b 0 ∷ transferIn b 1 ∷ [])
 
+-- ---- W-209, body 6: "pointer and state"
+abbrev pub pointerIn : List ℕ → ℕ
+pointerIn b = byteAt b 0
+
+abbrev pub pointedIn : List ℕ → Bool
+pointedIn b = byteAt b 1 == 1
+
 -- ---- "unused bits 0": those that no field of the record holds. Port C's upper four bits are the record's own matter.
 -- "D1 trigger (reads 0)"
 abbrev pub counterClear : ℕ → Bool
@@ -177,7 +184,11 @@ linesClear b = ltb (byteAt b 0) 2 && ltb (byteAt b 1) 2
 abbrev pub transfersClear : List ℕ → Bool
 transfersClear b = ltb (byteAt b 3) 4 && ltb (byteAt b 7) 4
 
--- ---- the five together: the record that they tell, and whether all their unused bits are 0. Paper 02, W-208: the stored lines "aren't
+-- of the pointer's state D0
+abbrev pub pointerClear : List ℕ → Bool
+pointerClear b = ltb (byteAt b 1) 2
+
+-- ---- the first five together: the record that they tell, and whether all their unused bits are 0. Paper 02, W-208: the stored lines "aren't
 -- in the image; restore works them out".
 unfoldable pub recordIn : ℕ → List ℕ → List ℕ → List ℕ → List ℕ → List ℕ → Device
 recordIn version registers counts pins lines transfers =

@@ -1,5 +1,5 @@
--- Paper 01, "The image", and paper 02, W-205: the bodies of a record, byte for byte, and its image. Every field of the record stands in one of them, but
--- for the stored lines, which are worked out (W-208):
+-- Paper 01, "The image", and paper 02, W-205 and W-209: the bodies of a record, byte for byte, and its image. Every field of the record
+-- stands in one of them, but for the stored lines, which are worked out (W-208):
 --
 --   | field                                               | body                                   |
 --   |-----------------------------------------------------|----------------------------------------|
@@ -17,10 +17,11 @@
 --   | iei, phase                                          | 4                                      |
 --   | transfers                                           | 5                                      |
 --   | version                                             | the first byte                         |
+--   | of a Z8536: pointer, pointed                        | 6                                      |
 --
 -- Assumes nothing.
 use Prim.Native.Nat.{ℕ, zero, suc, _+_, _-_, _/_, _%_}
-use mathlib.Core.Bool.{true, false}
+use mathlib.Core.Bool.{Bool, true, false}
 use mathlib.Core.List.{List, [], _∷_, _++_}
 use Rattle.basics.specs.Signs.{if_then_else_, _==_, within}
 use Rattle.rules.specs.declared.Device.{Device}
@@ -30,7 +31,7 @@ use Rattle.rules.specs.Record.{registerCount, vectorAt, portAt, transferAt, cou
 use Rattle.rules.specs.Registers.{kindOf}
 use Rattle.rules.specs.Access.{readOf}
 use Rattle.bodies.specs.declared.Bodies.{Bodies}
-use Rattle.bodies.specs.Layout.{Entry, layoutOf, contentsOf}
+use Rattle.bodies.specs.Layout.{Entry, Layout, layoutOf, contentsOf}
 
 -- the values of f at n places from i
 abbrev pub listed : (ℕ → ℕ) → ℕ → ℕ → List ℕ
@@ -96,7 +97,11 @@ abbrev pub bodiesOf : Device → Bodies
 bodiesOf d =
     record { registers = registersBody d; counts = countsBody d; pins = pinsBody d; lines = linesBody d; transfers = transfersBody d }
 
--- the body of an id; and the bodies of some entries, one behind the other
+-- W-209, body 6: "pointer and state"
+unfoldable pub pointerBody : ℕ → Bool → List ℕ
+pointerBody pointer pointed = pointer ∷ (if pointed then 1 else 0) ∷ []
+
+-- the body of an id
 abbrev pub bodyOf : Device → ℕ → List ℕ
 bodyOf d id =
     if id == 1 then registersBody d else
@@ -106,10 +111,15 @@ bodyOf d id =
     if id == 5 then transfersBody d else
     []
 
-abbrev pub bodiesFrom : Device → List Entry → List ℕ
-bodiesFrom d [] = []
-bodiesFrom d (e ∷ es) = bodyOf d (e .id) ++ bodiesFrom d es
+-- the bodies of some entries, one behind the other
+abbrev pub bodiesFrom : (ℕ → List ℕ) → List Entry → List ℕ
+bodiesFrom body [] = []
+bodiesFrom body (e ∷ es) = body (e .id) ++ bodiesFrom body es
 
--- the image of a record: "Contents first", then the bodies
+-- an image of these bodies in a layout: "Contents first", then the bodies
+abbrev pub imageIn : Layout → (ℕ → List ℕ) → List ℕ
+imageIn l body = contentsOf l ++ bodiesFrom body (l .entries)
+
+-- the image of a record
 unfoldable pub imageOf : Device → List ℕ
-imageOf d = contentsOf (layoutOf d) ++ bodiesFrom d (layoutOf d .entries)
+imageOf d = imageIn (layoutOf d) (bodyOf d)

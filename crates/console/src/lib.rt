@@ -5,7 +5,7 @@ ghost use Prim.Native.Nat.{_≤_, _<_};
 ghost use lib.ListN.{length};
 ghost use Rattle.texts.specs.Kept.{textRoom};
 ghost use Rattle.session.specs.Sessions.{deviceLast};
-use rules::Device;
+use chip::Chip;
 use session::Session;
 use texts::ROOM;
 use texts::Text;
@@ -99,7 +99,7 @@ fn answer_all(s: Session, input: i32, read: &mut [u8], out: &mut [u8], answers: 
 
 // A device after a trace, and whether all answers are written.
 pub struct Ended {
-    pub device: Device,
+    pub device: Chip,
     pub ok: bool,
 }
 
@@ -116,7 +116,7 @@ fn answer_last(s: Session, answers: i32) -> Ended
 }
 
 // Answers the lines of an input as they arrive, from a device on.
-pub fn run(d: Device, input: i32, answers: i32) -> Ended {
+pub fn run(d: Chip, input: i32, answers: i32) -> Ended {
     let mut read = io::large_buffer();
     let mut out = io::large_buffer();
     let t = answer_all(session::start(d), input, &mut read, &mut out, answers);

@@ -1,2 +1,3 @@
 pub mod Night
+pub mod NightZ8536
 pub mod Account

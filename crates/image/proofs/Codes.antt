@@ -19,20 +19,20 @@ use Rattle.image.specs.Image.{agree, saveCode, refused, acceptedOf, rest
 use Rattle.image.proofs.Agree.{same, alike, unlike, differ}
 
 -- ---- save, of a record and a buffer of n bytes: by whether the record is sound and whether the buffer is short
-abbrev saves : Bool → Bool → ℕ
+abbrev pub saves : Bool → Bool → ℕ
 saves sound short = cond (not sound) 9 (cond short 7 0)
 
-is-9 : (s l : Bool) → saves s l ≡ 9 → s ≡ false
+pub is-9 : (s l : Bool) → saves s l ≡ 9 → s ≡ false
 is-9 true true h = absurd (omega arith)
 is-9 true false h = absurd (omega arith)
 is-9 false l h = refl
 
-is-7 : (s l : Bool) → saves s l ≡ 7 → (s ≡ true) × (l ≡ true)
+pub is-7 : (s l : Bool) → saves s l ≡ 7 → (s ≡ true) × (l ≡ true)
 is-7 true true h = (refl, refl)
 is-7 true false h = absurd (omega arith)
 is-7 false l h = absurd (omega arith)
 
-is-0 : (s l : Bool) → saves s l ≡ 0 → (s ≡ true) × (l ≡ false)
+pub is-0 : (s l : Bool) → saves s l ≡ 0 → (s ≡ true) × (l ≡ false)
 is-0 true true h = absurd (omega arith)
 is-0 true false h = (refl, refl)
 is-0 false l h = absurd (omega arith)
@@ -64,28 +64,28 @@ restores short table long good d =
     cond short (refused 7)
     (cond (not table) (refused 8) (cond (not long) (refused 7) (cond (not good) (refused 9) (record { code = 0; device = d }))))
 
-told-7 : (s t l g : Bool) (d : Device) → restores s t l g d .code ≡ 7 → (s ≡ true) ⊎ ((s ≡ false) × (t ≡ true) × (l ≡ false))
+pub told-7 : (s t l g : Bool) (d : Device) → restores s t l g d .code ≡ 7 → (s ≡ true) ⊎ ((s ≡ false) × (t ≡ true) × (l ≡ false))
 told-7 true t l g d h = inl refl
 told-7 false true true true d h = absurd (omega arith)
 told-7 false true true false d h = absurd (omega arith)
 told-7 false true false g d h = inr (refl, refl, refl)
 told-7 false false l g d h = absurd (omega arith)
 
-told-8 : (s t l g : Bool) (d : Device) → restores s t l g d .code ≡ 8 → (s ≡ false) × (t ≡ false)
+pub told-8 : (s t l g : Bool) (d : Device) → restores s t l g d .code ≡ 8 → (s ≡ false) × (t ≡ false)
 told-8 true t l g d h = absurd (omega arith)
 told-8 false true true true d h = absurd (omega arith)
 told-8 false true true false d h = absurd (omega arith)
 told-8 false true false g d h = absurd (omega arith)
 told-8 false false l g d h = (refl, refl)
 
-told-9 : (s t l g : Bool) (d : Device) → restores s t l g d .code ≡ 9 → (t ≡ true) × (l ≡ true) × (g ≡ false)
+pub told-9 : (s t l g : Bool) (d : Device) → restores s t l g d .code ≡ 9 → (t ≡ true) × (l ≡ true) × (g ≡ false)
 told-9 true t l g d h = absurd (omega arith)
 told-9 false true true true d h = absurd (omega arith)
 told-9 false true true false d h = (refl, refl, refl)
 told-9 false true false g d h = absurd (omega arith)
 told-9 false false l g d h = absurd (omega arith)
 
-told-0 : (s t l g : Bool) (d : Device) → restores s t l g d .code ≡ 0 → (t ≡ true) × (l ≡ true) × (g ≡ true)
+pub told-0 : (s t l g : Bool) (d : Device) → restores s t l g d .code ≡ 0 → (t ≡ true) × (l ≡ true) × (g ≡ true)
 told-0 true t l g d h = absurd (omega arith)
 told-0 false true true true d h = (refl, refl, refl)
 told-0 false true true false d h = absurd (omega arith)

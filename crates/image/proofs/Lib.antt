@@ -1,5 +1,11 @@
 pub mod Agree
+pub mod Numbers
+pub mod Laying
 pub mod Versions
 pub mod Codes
 pub mod Answers
 pub mod RoundTrip
+pub mod PointedSaved
+pub mod PointedCore
+pub mod PointedCodes
+pub mod PointedTrip

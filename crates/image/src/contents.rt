@@ -27,3 +27,33 @@ pub(crate) const NEW: [u8; 22] = [
     88,
     8,
 ];
+
+// Of the Z8536: 03, 06, and for each body the same.
+pub(crate) const POINTED: [u8; 26] = [
+    3,
+    6,
+    1,
+    0,
+    26,
+    48,
+    2,
+    0,
+    74,
+    9,
+    3,
+    0,
+    83,
+    7,
+    4,
+    0,
+    90,
+    2,
+    5,
+    0,
+    92,
+    8,
+    6,
+    0,
+    100,
+    2,
+];

@@ -1,24 +1,32 @@
-// The image: a record saved into a lent buffer, and restored from a lent image.
+// The image: a record saved into a lent buffer, and restored from a lent image. The Z8536's are in `pointed`.
 mod contents;
+mod pointed;
 
 ghost use mathlib.Core.Path.{_≡_};
 ghost use mathlib.Core.Bool.{_&&_};
 ghost use mathlib.Core.List.{_++_};
-ghost use Prim.Native.Nat.{_≤_};
+ghost use Prim.Native.Nat.{_+_, _≤_};
 ghost use lib.ListN.{length, drop};
-ghost use Rattle.bodies.specs.Written.{imageOf};
 ghost use Rattle.bodies.specs.Taken.{recordIn, unusedClear, statesAgree};
-ghost use Rattle.bodies.specs.Layout.{layout1, layout2, layoutOf, lengthOf};
-ghost use Rattle.image.specs.Image.{agree, saveCode, savedOf, refused, acceptedOf, restoredIn, restoredOf};
+ghost use Rattle.image.specs.Image.{agree, fifthLen, bodiesLen, laidBy, saveCode, savedOf, refused, acceptedOf, restoredBy, restoredOf};
+pub use pointed::restore_z8536;
+pub use pointed::save_z8536;
 use rules::Device;
+use z8536::Z8536;
 
-// What a restore answers.
+// What a restore answers, of either device.
 pub struct Restored {
     pub code: u8,
     pub device: Device,
 }
 
-fn same_bytes(a: &[u8], b: &[u8]) -> bool
+pub struct RestoredZ8536 {
+    pub code: u8,
+    pub device: Z8536,
+}
+
+// Whether two slices hold the same bytes.
+pub fn same_bytes(a: &[u8], b: &[u8]) -> bool
     ensures { λ r. ⌜ r ≡ agree (now (a .entry)) (now (b .entry)) ⌝ }
 {
     if a.len() != b.len() {
@@ -34,33 +42,36 @@ fn same_bytes(a: &[u8], b: &[u8]) -> bool
     true
 }
 
-// The image of a record of version 1, into the first 84 bytes of a buffer.
-fn write_old(d: Device, buf: &mut [u8])
-    requires { ⌜ (lengthOf layout1 ≤ length (now buf)) × (layoutOf d ≡ layout1) ⌝ }
-    ensures { λ _. ⌜ now (buf .exit) ≡ imageOf d ++ drop (lengthOf layout1) (now (buf .entry)) ⌝ }
+// How long the fifth body of a version is: version 1 has none.
+fn fifth_len(version: u8) -> usize
+    ensures { λ r. ⌜ (r ≡ fifthLen version) × (r ≤ 8) ⌝ }
 {
-    let c = contents::OLD;
-    let b = image_out::bodies(d);
-    basics::lay(buf, 0, &c);
-    basics::lay(buf, 18, &b.registers);
-    basics::lay(buf, 66, &b.counts);
-    basics::lay(buf, 75, &b.pins);
-    basics::lay(buf, 82, &b.lines);
+    if version == 1 {
+        return 0;
+    }
+    8
 }
 
-// The image of a record of version 2, into the first 96.
-fn write_new(d: Device, buf: &mut [u8])
-    requires { ⌜ (lengthOf layout2 ≤ length (now buf)) × (layoutOf d ≡ layout2) ⌝ }
-    ensures { λ _. ⌜ now (buf .exit) ≡ imageOf d ++ drop (lengthOf layout2) (now (buf .entry)) ⌝ }
+// Contents, and behind them the bodies of a record.
+pub(crate) fn write_by(contents: &[u8], d: Device, buf: &mut [u8])
+    requires { ⌜ length (now contents) + bodiesLen (d .version) ≤ length (now buf) ⌝ }
+    ensures { λ _. ⌜ now (buf .exit) ≡ laidBy (now (contents .entry)) d
+        ++ drop (length (now (contents .entry)) + bodiesLen (d .version)) (now (buf .entry)) ⌝ }
 {
-    let c = contents::NEW;
+    let n = contents.len();
+    let counts = n + 48;
+    let pins = n + 57;
+    let lines = n + 64;
+    let transfers = n + 66;
     let b = image_out::bodies(d);
-    basics::lay(buf, 0, &c);
-    basics::lay(buf, 22, &b.registers);
-    basics::lay(buf, 70, &b.counts);
-    basics::lay(buf, 79, &b.pins);
-    basics::lay(buf, 86, &b.lines);
-    basics::lay(buf, 88, &b.transfers);
+    basics::lay(buf, 0, contents);
+    basics::lay(buf, n, &b.registers);
+    basics::lay(buf, counts, &b.counts);
+    basics::lay(buf, pins, &b.pins);
+    basics::lay(buf, lines, &b.lines);
+    if d.version != 1 {
+        basics::lay(buf, transfers, &b.transfers);
+    }
 }
 
 // Saves a record into the first bytes of a buffer, 84 of version 1, 96 of version 2. Codes: 9 for a record that is not sound, 7
@@ -75,9 +86,11 @@ pub fn save(d: Device, buf: &mut [u8]) -> u8
         return 7;
     }
     if d.version == 1 {
-        write_old(d, buf);
+        let old = contents::OLD;
+        write_by(&old, d, buf);
     } else {
-        write_new(d, buf);
+        let new = contents::NEW;
+        write_by(&new, d, buf);
     }
     0
 }
@@ -115,50 +128,32 @@ fn accept(
     Restored { code: 0, device: e }
 }
 
-// An image of version 1, or whose first byte is unknown.
-fn restore_old(s: &[u8]) -> Restored
-    ensures { λ r. ⌜ r ≡ restoredIn layout1 (now (s .entry)) ⌝ }
+// An image with these contents, of a record of a version; behind its bodies stand `more` bytes.
+pub(crate) fn restore_by(version: u8, contents: &[u8], more: u8, s: &[u8]) -> Restored
+    ensures { λ r. ⌜ r ≡ restoredBy version (now (contents .entry)) more (now (s .entry)) ⌝ }
 {
-    if s.len() < 18 {
+    let n = contents.len();
+    if s.len() < n {
         return refuse(7);
     }
-    let c = contents::OLD;
-    if !same_bytes(&s[0..18], &c) {
+    if !same_bytes(&s[..n], contents) {
         return refuse(8);
     }
-    if s.len() != Device::OLD_IMAGE {
+    let counts = n + 48;
+    let pins = n + 57;
+    let lines = n + 64;
+    let transfers = n + 66;
+    let end = transfers + fifth_len(version);
+    if s.len() != end + more as usize {
         return refuse(7);
     }
     accept(
-        1,
-        &s[18..66],
-        &s[66..75],
-        &s[75..82],
-        &s[82..84],
-        &s[84..84],
-    )
-}
-
-fn restore_new(s: &[u8]) -> Restored
-    ensures { λ r. ⌜ r ≡ restoredIn layout2 (now (s .entry)) ⌝ }
-{
-    if s.len() < 22 {
-        return refuse(7);
-    }
-    let c = contents::NEW;
-    if !same_bytes(&s[0..22], &c) {
-        return refuse(8);
-    }
-    if s.len() != Device::IMAGE {
-        return refuse(7);
-    }
-    accept(
-        2,
-        &s[22..70],
-        &s[70..79],
-        &s[79..86],
-        &s[86..88],
-        &s[88..96],
+        version,
+        &s[n..counts],
+        &s[counts..pins],
+        &s[pins..lines],
+        &s[lines..transfers],
+        &s[transfers..end],
     )
 }
 
@@ -168,7 +163,9 @@ pub fn restore(s: &[u8]) -> Restored
     ensures { λ r. ⌜ r ≡ restoredOf (now (s .entry)) ⌝ }
 {
     if basics::byte_at(s, 0) == 2 {
-        return restore_new(s);
+        let new = contents::NEW;
+        return restore_by(2, &new, 0, s);
     }
-    restore_old(s)
+    let old = contents::OLD;
+    restore_by(1, &old, 0, s)
 }

@@ -3,12 +3,14 @@
 ghost use mathlib.Core.Bool.{true, false};
 ghost use mathlib.Core.Path.{_≡_};
 ghost use Rattle.io.specs.Counts.{Counts};
-ghost use Rattle.rules.specs.Sound.{soundOf};
-ghost use Rattle.image_files.specs.Files.{isDash, freshLoaded};
+ghost use Rattle.chip.specs.Chips.{soundChip};
+ghost use Rattle.image_files.specs.Files.{isDash, isDashZ8536, freshLoaded, freshLoadedZ8536};
 use crate::Loaded;
+use chip::Chip;
 use console::print;
 use rules::Device;
 use texts::Text;
+use z8536::Z8536;
 
 // A line that begins with the file's name.
 fn say(report: i32, path: &[u8], t: Text) {
@@ -42,20 +44,29 @@ pub(crate) fn trouble(report: i32, path: &[u8], writing: bool) {
     say(report, path, phrases::trouble_line(writing, why(error)));
 }
 
-fn none() -> Loaded {
+fn fresh() -> Loaded
+    ensures { λ r. ⌜ r ≡ freshLoaded ⌝ }
+{
     Loaded {
-        device: Device::fresh(),
-        ok: false,
+        device: Chip::of_z8036(Device::fresh()),
+        ok: true,
     }
 }
 
-fn is_dash(path: &[u8]) -> bool
-    ensures { λ r. ⌜ r ≡ isDash (now (path .entry)) ⌝ }
+fn fresh_z8536() -> Loaded
+    ensures { λ r. ⌜ r ≡ freshLoadedZ8536 ⌝ }
 {
-    if path.len() != 1 {
-        return false;
+    Loaded {
+        device: Chip::of_z8536(Z8536::fresh()),
+        ok: true,
     }
-    path[0] == b'-'
+}
+
+fn none() -> Loaded {
+    Loaded {
+        device: Chip::of_z8036(Device::fresh()),
+        ok: false,
+    }
 }
 
 // Nothing came of a file: whether it is empty, which a further read tells from a failure.
@@ -64,17 +75,18 @@ fn is_empty(fd: i32) -> bool {
     libc::read(fd, &mut more) >= 0
 }
 
-// The version of an image that begins with a byte; one that is unknown counts as 1.
-fn version_of(first: u8) -> u8 {
-    if first == 2 {
-        return 2;
+// How long an image is that begins with a byte; one that is unknown counts as of version 1.
+fn image_len_by(first: u8) -> u32 {
+    match first {
+        2 => Device::IMAGE as u32,
+        3 => Z8536::IMAGE as u32,
+        _ => Device::OLD_IMAGE as u32,
     }
-    1
 }
 
-// The device of an open file. One byte more is read than an image has: then a longer file is refused too.
+// The device of an open file. One byte more is read than the longest image has: then a longer file is refused too.
 fn restore_from(fd: i32, path: &[u8], report: i32) -> Loaded {
-    let mut buf = [0u8; Device::IMAGE + 1];
+    let mut buf = [0u8; Z8536::IMAGE + 1];
     let n = io::read_full(fd, &mut buf);
     if n == 0 {
         if !is_empty(fd) {
@@ -82,12 +94,12 @@ fn restore_from(fd: i32, path: &[u8], report: i32) -> Loaded {
             return none();
         }
     }
-    let r = image::restore(&buf[..n]);
+    let r = chip_image::restore(&buf[..n]);
     if r.code != 0 {
         say(
             report,
             path,
-            phrases::refusal_line(r.code, version_of(buf[0]), n),
+            phrases::refusal_line(r.code, image_len_by(buf[0]), n),
         );
         return none();
     }
@@ -98,15 +110,16 @@ fn restore_from(fd: i32, path: &[u8], report: i32) -> Loaded {
     }
 }
 
-// The device of an image file; a lone `-` names the fresh device.
+// The device of an image file; `-` names the fresh Z8036, `-z8536` the fresh Z8536.
 pub fn load(path: &[u8], report: i32) -> Loaded
     ensures { λ r. ⌜ (isDash (now (path .entry)) ≡ true → r ≡ freshLoaded) ⌝ }
+    ensures { λ r. ⌜ (isDashZ8536 (now (path .entry)) ≡ true → r ≡ freshLoadedZ8536) ⌝ }
 {
-    if is_dash(path) {
-        return Loaded {
-            device: Device::fresh(),
-            ok: true,
-        };
+    if image::same_bytes(path, b"-") {
+        return fresh();
+    }
+    if image::same_bytes(path, b"-z8536") {
+        return fresh_z8536();
     }
     let fd = os::open_read(path);
     if fd < 0 {
@@ -258,11 +271,11 @@ fn replace(path: &[u8], report: i32, image: &[u8]) -> bool {
     replace_by(&mut name[..n], path, report, image)
 }
 
-// How much of a buffer an image of a version fills.
-fn image_part(version: u8, buf: &[u8]) -> usize
+// How much of a buffer the image of a device fills.
+fn image_part(d: Chip, buf: &[u8]) -> usize
     ensures { λ r. ⌜ Counts r (now (buf .entry)) ⌝ }
 {
-    let n = Device::image_len(version);
+    let n = chip_image::image_len(d);
     if buf.len() < n {
         return buf.len();
     }
@@ -270,19 +283,19 @@ fn image_part(version: u8, buf: &[u8]) -> usize
 }
 
 // Saves a device to an image file. Answers whether it is saved; where not, the file is as it was, and a line says why.
-pub fn keep(path: &[u8], d: Device, report: i32) -> bool
-    ensures { λ r. ⌜ (soundOf d ≡ false → r ≡ false) ⌝ }
+pub fn keep(path: &[u8], d: Chip, report: i32) -> bool
+    ensures { λ r. ⌜ (soundChip d ≡ false → r ≡ false) ⌝ }
 {
-    let mut image = [0u8; Device::IMAGE];
-    let code = image::save(d, &mut image);
+    let mut image = [0u8; Z8536::IMAGE];
+    let code = chip_image::save(d, &mut image);
     if code != 0 {
         say(
             report,
             path,
-            phrases::refusal_line(code, d.version, Device::IMAGE),
+            phrases::refusal_line(code, Z8536::IMAGE as u32, Z8536::IMAGE),
         );
         return false;
     }
-    let n = image_part(d.version, &image);
+    let n = image_part(d, &image);
     replace(path, report, &image[..n])
 }

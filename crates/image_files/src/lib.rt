@@ -1,6 +1,7 @@
 // The night: a device restored from an image file, a trace run on it, and the device saved again.
 mod files;
 
+use chip::Chip;
 use console::print;
 pub use files::keep;
 pub use files::load;
@@ -8,7 +9,7 @@ use rules::Device;
 
 // A device, and whether there is one; where not, a line has said why.
 pub struct Loaded {
-    pub device: Device,
+    pub device: Chip,
     pub ok: bool,
 }
 
@@ -20,14 +21,22 @@ fn show_all(d: Device, out: i32) {
     }
 }
 
+// A device in words: of a Z8536 its pointer, then its core.
+fn show_device(c: Chip, out: i32) {
+    let z = c.device;
+    if c.z8536 {
+        print(out, words::pointer_line(z.pointer, z.pointed));
+    }
+    show_all(z.core, out);
+}
+
 // Prints the device of an image file in words.
 pub fn show(path: &[u8], out: i32, report: i32) {
     let l = files::load(path, report);
     if !l.ok {
         return;
     }
-    let d = l.device;
-    show_all(d, out);
+    show_device(l.device, out);
 }
 
 // Restores the device of one image file, runs the trace of a descriptor on it, and saves the device to another image

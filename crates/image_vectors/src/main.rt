@@ -1,20 +1,23 @@
 // Restores the images on standard input, a line of hexadecimal digits for each, and prints the code of each; with 0 the image that
-// saving its record writes.
+// saving its record writes. A line that begins with Z goes to the Z8536's restore.
 ghost use Prim.Native.Nat.{_<_};
 use libc::STDIN_FILENO;
 use libc::STDOUT_FILENO;
 use rules::Device;
+use z8536::Z8536;
 
-// The bytes of a line so far, two digits to a byte; a longer line keeps its first 128.
+// The bytes of a line so far, two digits to a byte, and whether it is for the Z8536; a longer line keeps its first 128.
 struct Line {
     bytes: [u8; 128],
     digits: usize,
+    z8536: bool,
 }
 
 fn empty() -> Line {
     Line {
         bytes: [0; 128],
         digits: 0,
+        z8536: false,
     }
 }
 
@@ -77,6 +80,13 @@ fn print_image(d: Device) {
     print_first(&buf, Device::image_len(d.version));
 }
 
+fn print_image_z8536(z: Z8536) {
+    let mut buf = [0u8; Z8536::IMAGE];
+    image::save_z8536(z, &mut buf);
+    io::write_all(STDOUT_FILENO, b" ");
+    print_bytes(&buf);
+}
+
 fn print_code(b: &[u8], n: usize) {
     if n > b.len() {
         return;
@@ -89,26 +99,84 @@ fn print_code(b: &[u8], n: usize) {
     io::write_all(STDOUT_FILENO, b"\n");
 }
 
+fn print_code_z8536(b: &[u8], n: usize) {
+    if n > b.len() {
+        return;
+    }
+    let r = image::restore_z8536(&b[0..n]);
+    io::print_decimal(STDOUT_FILENO, r.code as u64);
+    if r.code == 0 {
+        print_image_z8536(r.device);
+    }
+    io::write_all(STDOUT_FILENO, b"\n");
+}
+
+fn print_line(l: Line) {
+    let b = l.bytes;
+    if l.z8536 {
+        print_code_z8536(&b, l.digits / 2);
+    } else {
+        print_code(&b, l.digits / 2);
+    }
+}
+
 fn next(l: Line, c: u8) -> Line {
     if c == b'\n' {
-        let b = l.bytes;
-        print_code(&b, l.digits / 2);
+        print_line(l);
         return empty();
+    }
+    if c == b'Z' {
+        let mut m = l;
+        m.z8536 = true;
+        return m;
     }
     with_digit(l, c)
 }
 
-fn print_codes(text: &[u8]) {
-    let mut l = empty();
+// The lines that end in a piece of the input; what is left is handed on.
+fn print_codes(l: Line, piece: &[u8]) -> Line {
+    let mut m = l;
     let mut i = 0;
-    while i < text.len() {
-        l = next(l, text[i]);
+    while i < piece.len() {
+        m = next(m, piece[i]);
         i += 1;
+    }
+    m
+}
+
+// What is left of a line, and whether there may be more of the input.
+struct Turn {
+    line: Line,
+    more: bool,
+}
+
+// Reads once, and prints what came.
+fn print_some(l: Line, text: &mut [u8]) -> Turn {
+    let n = io::read_full(STDIN_FILENO, text);
+    if n == 0 {
+        return Turn {
+            line: l,
+            more: false,
+        };
+    }
+    let m = print_codes(l, &text[..n]);
+    Turn {
+        line: m,
+        more: true,
     }
 }
 
+// (A proved loop has to end: its turns are counted down.)
 fn main() {
     let mut text = io::large_buffer();
-    let n = io::read_full(STDIN_FILENO, &mut text);
-    print_codes(&text[..n]);
+    let mut l = empty();
+    let mut turns = u64::MAX;
+    while turns > 0 {
+        let t = print_some(l, &mut text);
+        if !t.more {
+            return;
+        }
+        l = t.line;
+        turns -= 1;
+    }
 }

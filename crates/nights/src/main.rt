@@ -1,6 +1,7 @@
 // Nights and devices in words, one after the other: what `show` prints of four images, a night with one argument, a night
-// refused in each way, a night cut in three, a night between two long runs, one of a version 1 device, and one with a
-// handshake.
+// refused in each way, a night cut in three, a night between two long runs, one of a version 1 device, one with a
+// handshake, and one of a Z8536.
+use chip::Chip;
 use libc::STDIN_FILENO;
 use libc::STDOUT_FILENO;
 
@@ -33,6 +34,8 @@ fn refusals() {
     refused(b"long", b"kept");
     refused(b"short2", b"kept");
     refused(b"long2", b"kept");
+    refused(b"short3", b"kept");
+    refused(b"long3", b"kept");
     refused(b"contents", b"kept");
     refused(b"unsound", b"kept");
     refused(b"kept", b"missing/kept");
@@ -41,13 +44,20 @@ fn refusals() {
     refused(b"kept", b"kept");
 }
 
+fn same(c: Chip, d: Chip) -> bool {
+    let y = c.device;
+    let z = d.device;
+    (c.z8536 == d.z8536)
+        & (y.pointer == z.pointer)
+        & (y.pointed == z.pointed)
+        & record::same(y.core, z.core)
+}
+
 // Whether two image files hold the same device.
 fn print_same(one: &[u8], other: &[u8]) {
     let a = image_files::load(one, STDOUT_FILENO);
     let b = image_files::load(other, STDOUT_FILENO);
-    let d = a.device;
-    let e = b.device;
-    if a.ok & b.ok & record::same(d, e) {
+    if a.ok & b.ok & same(a.device, b.device) {
         io::write_all(STDOUT_FILENO, b"same\n");
     } else {
         io::write_all(STDOUT_FILENO, b"lost\n");
@@ -89,6 +99,15 @@ fn with_handshake() {
     print_same(b"held", b"unbroken");
 }
 
+// A Z8536 whose pointer was set just before the night, and a counter at work.
+fn of_z8536() {
+    night(b"-z8536", b"pointed", b"z8536/evening");
+    show(b"pointed");
+    night(b"pointed", b"pointed", b"z8536/morning");
+    night(b"-z8536", b"straight", b"z8536/whole");
+    print_same(b"pointed", b"straight");
+}
+
 fn main() {
     shown();
     image_files::night_arguments(STDIN_FILENO, STDOUT_FILENO, STDOUT_FILENO);
@@ -97,4 +116,5 @@ fn main() {
     between_long_runs();
     of_old();
     with_handshake();
+    of_z8536();
 }

@@ -5,23 +5,22 @@ use mathlib.Core.Bool.{Bool}
 use mathlib.Core.List.{List, _++_}
 use lib.Dec.{ltb}
 use Rattle.basics.specs.Signs.{if_then_else_, _==_}
-use Rattle.rules.specs.Record.{imageLen}
 use Rattle.texts.specs.Answers.{decimalText}
 use Rattle.texts.specs.Spelled.{spelled}
 
 -- ---- images
--- "7 for an image shorter than its version's table .. 7 for a length other than the version's", for a file of n bytes: of both
--- it is so that they are under or over that length
+-- "7 for an image shorter than its version's table .. 7 for a length other than the version's", for a file of n bytes whose image
+-- should have so many: of both it is so that they are under or over that length
 unfoldable pub side : ℕ → ℕ → List ℕ
-side version n = if ltb (imageLen version) n then spelled ": refused 7 (over " else spelled ": refused 7 (under "
+side whole n = if ltb whole n then spelled ": refused 7 (over " else spelled ": refused 7 (under "
 
 unfoldable pub notWhole : ℕ → ℕ → List ℕ
-notWhole version n = side version n ++ decimalText (imageLen version) ++ spelled " bytes)\n"
+notWhole whole n = side whole n ++ decimalText whole ++ spelled " bytes)\n"
 
 -- "8 | image's first 18 bytes differ from the table", "9 | record or bodies break the soundness rules"
 unfoldable pub refusal : ℕ → ℕ → ℕ → List ℕ
-refusal code version n =
-    if code == 7 then notWhole version n else
+refusal code whole n =
+    if code == 7 then notWhole whole n else
     if code == 8 then spelled ": refused 8 (contents differ)\n" else
     spelled ": refused 9 (bodies unsound)\n"
 

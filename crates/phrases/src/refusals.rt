@@ -3,32 +3,31 @@ ghost use mathlib.Core.Path.{_≡_};
 ghost use Rattle.texts.specs.Kept.{noText, typed};
 ghost use Rattle.phrases.specs.Refusals.{side as sideOf, notWhole, refusal, attempt as attemptOf, reason as reasonOf, trouble};
 use crate::word;
-use rules::Device;
 use texts::Text;
 
-fn side(version: u8, n: usize) -> Text
-    ensures { λ r. ⌜ r ≡ typed noText (sideOf version n) ⌝ }
+fn side(whole: u32, n: usize) -> Text
+    ensures { λ r. ⌜ r ≡ typed noText (sideOf whole n) ⌝ }
 {
     let t = texts::no_text();
-    if Device::image_len(version) < n {
+    if (whole as usize) < n {
         return word(t, b": refused 7 (over ");
     }
     word(t, b": refused 7 (under ")
 }
 
-fn not_whole(version: u8, n: usize) -> Text
-    ensures { λ r. ⌜ r ≡ typed noText (notWhole version n) ⌝ }
+fn not_whole(whole: u32, n: usize) -> Text
+    ensures { λ r. ⌜ r ≡ typed noText (notWhole whole n) ⌝ }
 {
-    let t = texts::decimal(side(version, n), Device::image_len(version) as u32);
+    let t = texts::decimal(side(whole, n), whole);
     word(t, b" bytes)\n")
 }
 
-// Why an image of a version and of n bytes is refused, by the code of the refusal.
-pub fn refusal_line(code: u8, version: u8, n: usize) -> Text
-    ensures { λ r. ⌜ r ≡ typed noText (refusal code version n) ⌝ }
+// Why an image of n bytes that should have so many is refused, by the code of the refusal.
+pub fn refusal_line(code: u8, whole: u32, n: usize) -> Text
+    ensures { λ r. ⌜ r ≡ typed noText (refusal code whole n) ⌝ }
 {
     match code {
-        7 => not_whole(version, n),
+        7 => not_whole(whole, n),
         8 => word(texts::no_text(), b": refused 8 (contents differ)\n"),
         _ => word(texts::no_text(), b": refused 9 (bodies unsound)\n"),
     }

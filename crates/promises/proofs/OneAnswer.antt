@@ -12,7 +12,10 @@ use Rattle.basics.specs.Buffer.{fits, laidOf}
 use Rattle.basics.specs.Byte.{byteIn, byteOf, withByte}
 use Rattle.bodies.specs.Taken.{statesAgree, recordIn, unusedClear}
 use Rattle.bodies.specs.Written.{bodiesOf}
-use Rattle.image.specs.Image.{restoredOf, saveCode, savedOf}
+use Rattle.chip.specs.Chips.{coreOf, eventChip, ofZ8036, ofZ8536}
+use Rattle.chip_image.specs.ChipImage.{lengthChip, restoredChip, saveCodeChip, savedChip}
+use Rattle.image.specs.Image.{agree, restoredOf, saveCode, savedOf}
+use Rattle.image.specs.Pointed.{restoredZ8536, saveCodeZ8536, savedZ8536}
 use Rattle.input.specs.Input.{unread}
 use Rattle.lines.specs.Lines.{eventIn, saysOf}
 use Rattle.lines.specs.Pieces.{cutFrom}
@@ -35,7 +38,8 @@ use Rattle.rules.specs.With.{device}
 use Rattle.session.specs.Sessions.{answered, answersIn, answersLast, bytesRead, fedBy, finishedBy, startOf}
 use Rattle.texts.specs.Answers.{answerText, decimalText, glyphOf}
 use Rattle.texts.specs.Kept.{bytesOf, noText, pushed, typed}
-use Rattle.words.specs.Shown.{shownLine}
+use Rattle.words.specs.Shown.{pointerLine, shownLine}
+use Rattle.z8536.specs.Z8536.{eventZ8536, freshZ8536, soundZ8536}
 use denote.Ref.{now}
 use lib.ListN.{drop, getD, length}
 use mathlib.Core.Bool.{_&&_, cond}
@@ -57,6 +61,18 @@ use Rattle.inplace.proofs.lines as inplace·lines
 use Rattle.bridge.proofs.through as bridge·through
 use Rattle.image.proofs.save as image·save
 use Rattle.image.proofs.restore as image·restore
+use Rattle.z8536.proofs.Z8536.fresh as z8536·Z8536-fresh
+use Rattle.z8536.proofs.sound as z8536·sound
+use Rattle.event_z8536.proofs.event as event-z8536·event
+use Rattle.image.proofs.save_z8536 as image·save-z8536
+use Rattle.image.proofs.restore_z8536 as image·restore-z8536
+use Rattle.chip.proofs.Chip.of_z8036 as chip·Chip-of-z8036
+use Rattle.chip.proofs.Chip.of_z8536 as chip·Chip-of-z8536
+use Rattle.chip.proofs.Chip.core as chip·Chip-core
+use Rattle.chip.proofs.event as chip·event
+use Rattle.chip_image.proofs.image_len as chip-image·image-len
+use Rattle.chip_image.proofs.save as chip-image·save
+use Rattle.chip_image.proofs.restore as chip-image·restore
 use Rattle.session.proofs.start as session·start
 use Rattle.session.proofs.feed as session·feed
 use Rattle.session.proofs.finish as session·finish
@@ -67,6 +83,7 @@ use Rattle.record.proofs.same as record·same
 use Rattle.clocks.proofs.run as clocks·run
 use Rattle.registers.proofs.kind_of as registers·kind-of
 use Rattle.words.proofs.line as words·line
+use Rattle.words.proofs.pointer_line as words·pointer-line
 use Rattle.phrases.proofs.word as phrases·word
 use Rattle.phrases.proofs.refusal_line as phrases·refusal-line
 use Rattle.phrases.proofs.trouble_line as phrases·trouble-line
@@ -82,6 +99,7 @@ use Rattle.basics.proofs.lay as basics·lay
 use Rattle.counters.proofs.output as counters·output
 use Rattle.counters.proofs.turn as counters·turn
 use Rattle.counters.proofs.command as counters·command
+use Rattle.image.proofs.same_bytes as image·same-bytes
 use Rattle.image_in.proofs.device as image-in·device
 use Rattle.image_in.proofs.clear as image-in·clear
 use Rattle.image_out.proofs.bodies as image-out·bodies
@@ -184,6 +202,48 @@ module _ {M : Type 1} (𝓤 : URA M) where
   pub image-restore : OneResult 𝓤 image·restore.ended (image·restore.clauses 𝓤)
   image-restore = one-result 𝓤 image·restore.ended (image·restore.clauses 𝓤) (λ κs a. restoredOf (now (a .0))) refl
 
+  pub z8536-Z8536-fresh : OneResult 𝓤 z8536·Z8536-fresh.ended (z8536·Z8536-fresh.clauses 𝓤)
+  z8536-Z8536-fresh = one-result 𝓤 z8536·Z8536-fresh.ended (z8536·Z8536-fresh.clauses 𝓤) (λ κs a. freshZ8536) refl
+
+  pub z8536-sound : OneResult 𝓤 z8536·sound.ended (z8536·sound.clauses 𝓤)
+  z8536-sound = one-result 𝓤 z8536·sound.ended (z8536·sound.clauses 𝓤) (λ κs a. soundZ8536 (a .0)) refl
+
+  pub event-z8536-event : OneResult 𝓤 event-z8536·event.ended (event-z8536·event.clauses 𝓤)
+  event-z8536-event = one-result 𝓤 event-z8536·event.ended (event-z8536·event.clauses 𝓤) (λ κs a. eventZ8536 (a .0) (a .1 .0)) refl
+
+  pub image-save-z8536 : OneAnswer 𝓤 image·save-z8536.ended (image·save-z8536.clauses 𝓤) (λ κs. ℕ × List ℕ) (λ κs r x. (r, now (x .1 .0)))
+  image-save-z8536 =
+      one-answer 𝓤 image·save-z8536.ended (image·save-z8536.clauses 𝓤) (λ κs. ℕ × List ℕ) (λ κs r x. (r, now (x .1 .0)))
+      (λ κs a. (saveCodeZ8536 (a .0) (length (now (a .1 .0))), savedZ8536 (a .0) (now (a .1 .0))))
+      (λ H A at-mem run κs a g r x. fact-mono 𝓤 _ _ (λ p i. (p .0 i, p .1 i)))
+
+  pub image-restore-z8536 : OneResult 𝓤 image·restore-z8536.ended (image·restore-z8536.clauses 𝓤)
+  image-restore-z8536 = one-result 𝓤 image·restore-z8536.ended (image·restore-z8536.clauses 𝓤) (λ κs a. restoredZ8536 (now (a .0))) refl
+
+  pub chip-Chip-of-z8036 : OneResult 𝓤 chip·Chip-of-z8036.ended (chip·Chip-of-z8036.clauses 𝓤)
+  chip-Chip-of-z8036 = one-result 𝓤 chip·Chip-of-z8036.ended (chip·Chip-of-z8036.clauses 𝓤) (λ κs a. ofZ8036 (a .0)) refl
+
+  pub chip-Chip-of-z8536 : OneResult 𝓤 chip·Chip-of-z8536.ended (chip·Chip-of-z8536.clauses 𝓤)
+  chip-Chip-of-z8536 = one-result 𝓤 chip·Chip-of-z8536.ended (chip·Chip-of-z8536.clauses 𝓤) (λ κs a. ofZ8536 (a .0)) refl
+
+  pub chip-Chip-core : OneResult 𝓤 chip·Chip-core.ended (chip·Chip-core.clauses 𝓤)
+  chip-Chip-core = one-result 𝓤 chip·Chip-core.ended (chip·Chip-core.clauses 𝓤) (λ κs a. coreOf (a .0)) refl
+
+  pub chip-event : OneResult 𝓤 chip·event.ended (chip·event.clauses 𝓤)
+  chip-event = one-result 𝓤 chip·event.ended (chip·event.clauses 𝓤) (λ κs a. eventChip (a .0) (a .1 .0)) refl
+
+  pub chip-image-image-len : OneResult 𝓤 chip-image·image-len.ended (chip-image·image-len.clauses 𝓤)
+  chip-image-image-len = one-result 𝓤 chip-image·image-len.ended (chip-image·image-len.clauses 𝓤) (λ κs a. lengthChip (a .0)) refl
+
+  pub chip-image-save : OneAnswer 𝓤 chip-image·save.ended (chip-image·save.clauses 𝓤) (λ κs. ℕ × List ℕ) (λ κs r x. (r, now (x .1 .0)))
+  chip-image-save =
+      one-answer 𝓤 chip-image·save.ended (chip-image·save.clauses 𝓤) (λ κs. ℕ × List ℕ) (λ κs r x. (r, now (x .1 .0)))
+      (λ κs a. (saveCodeChip (a .0) (length (now (a .1 .0))), savedChip (a .0) (now (a .1 .0))))
+      (λ H A at-mem run κs a g r x. fact-mono 𝓤 _ _ (λ p i. (p .0 i, p .1 i)))
+
+  pub chip-image-restore : OneResult 𝓤 chip-image·restore.ended (chip-image·restore.clauses 𝓤)
+  chip-image-restore = one-result 𝓤 chip-image·restore.ended (chip-image·restore.clauses 𝓤) (λ κs a. restoredChip (now (a .0))) refl
+
   pub session-start : OneResult 𝓤 session·start.ended (session·start.clauses 𝓤)
   session-start = one-result 𝓤 session·start.ended (session·start.clauses 𝓤) (λ κs a. startOf (a .0)) refl
 
@@ -223,6 +283,9 @@ module _ {M : Type 1} (𝓤 : URA M) where
 
   pub words-line : OneResult 𝓤 words·line.ended (words·line.clauses 𝓤)
   words-line = one-result 𝓤 words·line.ended (words·line.clauses 𝓤) (λ κs a. typed noText (shownLine (a .0) (a .1 .0))) refl
+
+  pub words-pointer-line : OneResult 𝓤 words·pointer-line.ended (words·pointer-line.clauses 𝓤)
+  words-pointer-line = one-result 𝓤 words·pointer-line.ended (words·pointer-line.clauses 𝓤) (λ κs a. typed noText (pointerLine (a .0) (a .1 .0))) refl
 
   pub phrases-word : OneResult 𝓤 phrases·word.ended (phrases·word.clauses 𝓤)
   phrases-word = one-result 𝓤 phrases·word.ended (phrases·word.clauses 𝓤) (λ κs a. typed (a .0) (now (a .1 .0))) refl
@@ -284,6 +347,9 @@ module _ {M : Type 1} (𝓤 : URA M) where
 
   pub counters-command : OneResult 𝓤 counters·command.ended (counters·command.clauses 𝓤)
   counters-command = one-result 𝓤 counters·command.ended (counters·command.clauses 𝓤) (λ κs a. commandedBy (a .0) (a .1 .0) (a .1 .1 .0)) refl
+
+  pub image-same-bytes : OneResult 𝓤 image·same-bytes.ended (image·same-bytes.clauses 𝓤)
+  image-same-bytes = one-result 𝓤 image·same-bytes.ended (image·same-bytes.clauses 𝓤) (λ κs a. agree (now (a .0)) (now (a .1 .0))) refl
 
   pub image-in-device : OneResult 𝓤 image-in·device.ended (image-in·device.clauses 𝓤)
   image-in-device =

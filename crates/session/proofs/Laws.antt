@@ -3,9 +3,8 @@
 use Prim.Native.Nat.{ℕ}
 use mathlib.Core.List.{List, [], _∷_, _++_, append-assoc}
 use mathlib.Core.Path.{_≡_, refl, sym, ap, ap₂, _∙_}
-use Rattle.rules.specs.Events.{eventOf}
-use Rattle.rules.specs.Record.{freshOf}
-use Rattle.rules.specs.declared.Device.{Device}
+use Rattle.chip.specs.Chips.{eventChip}
+use Rattle.chip.specs.declared.Chip.{Chip}
 use Rattle.lines.proofs.Whole.{said-append, kept-append, said-lines}
 use Rattle.texts.specs.Answers.{answerText}
 use Rattle.lines.specs.Lines.{eventIn}
@@ -15,20 +14,20 @@ use Rattle.texts.specs.declared.Text.{Text}
 use Rattle.session.specs.Sessions.{answerBytes, deviceAfter, printedFor, startOf, afterOf, answersIn, answersLast, writtenBy}
 use Rattle.session.specs.declared.Session.{Session}
 
-pub device-append : (d : Device) (ls ms : List Line) → deviceAfter d (ls ++ ms) ≡ deviceAfter (deviceAfter d ls) ms
+pub device-append : (d : Chip) (ls ms : List Line) → deviceAfter d (ls ++ ms) ≡ deviceAfter (deviceAfter d ls) ms
 unfolding deviceAfter
 device-append d [] ms = refl
-device-append d (l ∷ ls) ms = device-append (eventOf d (eventIn l) .device) ls ms
+device-append d (l ∷ ls) ms = device-append (eventChip d (eventIn l) .device) ls ms
 
-pub answers-to-append : (d : Device) (ls ms : List Line) → answerBytes d (ls ++ ms) ≡ answerBytes d ls ++ answerBytes (deviceAfter d ls) ms
+pub answers-to-append : (d : Chip) (ls ms : List Line) → answerBytes d (ls ++ ms) ≡ answerBytes d ls ++ answerBytes (deviceAfter d ls) ms
 unfolding answerBytes deviceAfter
 answers-to-append d [] ms = refl
 answers-to-append d (l ∷ ls) ms =
-    let o = eventOf d (eventIn l) in
+    let o = eventChip d (eventIn l) in
     ap (λ (w : List ℕ). answerText (o .answer) ++ w) (answers-to-append (o .device) ls ms)
     ∙ sym (append-assoc (answerText (o .answer)) (answerBytes (o .device) ls) (answerBytes (deviceAfter (o .device) ls) ms))
 
-abbrev session : Device → Text → Session
+abbrev session : Chip → Text → Session
 session d t = record { device = d; text = t }
 
 -- two pieces are one
@@ -36,7 +35,7 @@ pub after-append : (s : Session) (p q : List ℕ) → afterOf s (p ++ q) ≡ aft
 unfolding afterOf
 after-append s p q =
     ap₂ (λ (ls : List Line) (u : Text). session (deviceAfter (s .device) ls) u) (said-append (s .text) p q) (kept-append (s .text) p q)
-    ∙ ap (λ (d : Device). session d (keptAfter (keptAfter (s .text) p) q)) (device-append (s .device) (saidIn (s .text) p) (saidIn (keptAfter (s .text) p) q))
+    ∙ ap (λ (d : Chip). session d (keptAfter (keptAfter (s .text) p) q)) (device-append (s .device) (saidIn (s .text) p) (saidIn (keptAfter (s .text) p) q))
 
 pub answers-append : (s : Session) (p q : List ℕ) → answersIn s (p ++ q) ≡ answersIn s p ++ answersIn (afterOf s p) q
 unfolding answersIn afterOf
@@ -51,6 +50,6 @@ written-said s (p ∷ ps) =
     ap (λ (w : List ℕ). answerBytes (s .device) (saidIn (s .text) p) ++ w) (written-said (afterOf s p) ps)
     ∙ sym (answers-to-append (s .device) (saidIn (s .text) p) (saidAll (keptAfter (s .text) p) ps))
 
-pub written : (ps : List (List ℕ)) → writtenBy (startOf freshOf) ps ≡ printedFor (inputOf ps)
+pub written : (d : Chip) (ps : List (List ℕ)) → writtenBy (startOf d) ps ≡ printedFor d (inputOf ps)
 unfolding printedFor
-written ps = written-said (startOf freshOf) ps ∙ ap (answerBytes freshOf) (said-lines ps)
+written d ps = written-said (startOf d) ps ∙ ap (answerBytes d) (said-lines ps)

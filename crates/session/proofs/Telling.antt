@@ -24,7 +24,7 @@ use Rattle.session.specs.Sessions.{outcomeBy, answerBytes, deviceAfter, 
 use Rattle.session.specs.declared.Fed.{Fed}
 use Rattle.session.specs.declared.Session.{Session}
 use Rattle.session.specs.declared.Told.{Told}
-use Rattle.rules.specs.declared.Device.{Device}
+use Rattle.chip.specs.declared.Chip.{Chip}
 
 -- a line's bytes are among those that there are, and some where there are any
 pub line-short : (m : List ℕ) → lineLen m ≤ length m
@@ -148,7 +148,7 @@ unfolding answersLast saidLast answerBytes
 last-some s e = simp (ne-eqb (s .text .len) 0 e) (append-nil (answerText (outcomeBy (s .device) (s .text) .answer)))
 
 -- what is handed back of it
-abbrev told : Device → ℕ → Told
+abbrev told : Chip → ℕ → Told
 told d n = record { device = d; len = n }
 
 abbrev ends : List ℕ → List ℕ → ℕ

@@ -1,5 +1,5 @@
--- The session of the trace program. Paper 01, "The trace program": "From the fresh device, reads standard input: .. Each line
--- prints ..".
+-- The session of the trace programs. Paper 01, "The trace program": "From the fresh device, reads standard input: .. Each line
+-- prints ..". Paper 02, W-209: the Z8536 has one too.
 -- Assumes nothing.
 use Prim.Native.Nat.{ℕ, suc, _+_}
 use mathlib.Core.List.{List, [], _∷_, _++_, map}
@@ -7,10 +7,9 @@ use lib.Dec.{ltb}
 use lib.ListN.{length, take, drop}
 use Rattle.basics.specs.Buffer.{fits}
 use Rattle.basics.specs.Signs.{if_then_else_}
-use Rattle.rules.specs.Events.{eventOf}
-use Rattle.rules.specs.Record.{freshOf}
-use Rattle.rules.specs.declared.Device.{Device}
-use Rattle.rules.specs.declared.Outcome.{Outcome}
+use Rattle.chip.specs.declared.Chip.{Chip}
+use Rattle.chip.specs.declared.OutcomeChip.{OutcomeChip}
+use Rattle.chip.specs.Chips.{eventChip}
 use Rattle.texts.specs.Answers.{answerText}
 use Rattle.texts.specs.Kept.{textRoom, noText}
 use Rattle.lines.specs.Lines.{eventIn, lineOf, saysOf}
@@ -22,25 +21,25 @@ use Rattle.session.specs.declared.Session.{Session}
 use Rattle.session.specs.declared.Told.{Told}
 
 -- a line that is kept, said to a device
-abbrev pub outcomeBy : Device → Text → Outcome
-outcomeBy d t = eventOf d (eventIn (saysOf t))
+abbrev pub outcomeBy : Chip → Text → OutcomeChip
+outcomeBy d t = eventChip d (eventIn (saysOf t))
 
 -- ---- lines said to a device one after the other: the bytes of their answers, and the device after them
-unfoldable pub answerBytes : Device → List Line → List ℕ
+unfoldable pub answerBytes : Chip → List Line → List ℕ
 answerBytes d [] = []
-answerBytes d (l ∷ ls) = answerText (eventOf d (eventIn l) .answer) ++ answerBytes (eventOf d (eventIn l) .device) ls
+answerBytes d (l ∷ ls) = answerText (eventChip d (eventIn l) .answer) ++ answerBytes (eventChip d (eventIn l) .device) ls
 
-unfoldable pub deviceAfter : Device → List Line → Device
+unfoldable pub deviceAfter : Chip → List Line → Chip
 deviceAfter d [] = d
-deviceAfter d (l ∷ ls) = deviceAfter (eventOf d (eventIn l) .device) ls
+deviceAfter d (l ∷ ls) = deviceAfter (eventChip d (eventIn l) .device) ls
 
--- all that the program writes, for all that it reads
-unfoldable pub printedFor : List ℕ → List ℕ
-printedFor input = answerBytes freshOf (map lineOf (inputLines input))
+-- all that a program writes that starts with this device, for all that it reads
+unfoldable pub printedFor : Chip → List ℕ → List ℕ
+printedFor d input = answerBytes d (map lineOf (inputLines input))
 
 -- ---- in pieces
 -- before the first byte
-abbrev pub startOf : Device → Session
+abbrev pub startOf : Chip → Session
 startOf d = record { device = d; text = noText }
 
 -- a session after the bytes p, and the answers to the lines that end in them
@@ -54,7 +53,7 @@ answersIn s p = answerBytes (s .device) (saidIn (s .text) p)
 unfoldable pub answersLast : Session → List ℕ
 answersLast s = answerBytes (s .device) (saidLast (s .text))
 
-unfoldable pub deviceLast : Session → Device
+unfoldable pub deviceLast : Session → Chip
 deviceLast s = deviceAfter (s .device) (saidLast (s .text))
 
 -- all that is written for an input that comes in these pieces

@@ -7,11 +7,11 @@ ghost use Rattle.texts.specs.Answers.{answerText};
 ghost use Rattle.texts.specs.Kept.{textRoom};
 ghost use Rattle.basics.specs.Buffer.{fits, laidOf};
 ghost use Rattle.session.specs.Sessions.{outcomeBy, startOf, answersIn, answersLast, bytesRead, fedBy, answered, finishedBy, lineIn, lineFed};
-use rules::Device;
+use chip::Chip;
 use texts::Text;
 
 pub struct Session {
-    pub device: Device,
+    pub device: Chip,
     pub text: Text,
 }
 
@@ -24,12 +24,12 @@ pub struct Fed {
 
 // A device after a line, and where its answer ends in the buffer.
 pub struct Told {
-    pub device: Device,
+    pub device: Chip,
     pub len: usize,
 }
 
 // Before the first byte.
-pub fn start(d: Device) -> Session
+pub fn start(d: Chip) -> Session
     ensures { λ r. ⌜ r ≡ startOf d ⌝ }
 {
     Session {
@@ -39,12 +39,12 @@ pub fn start(d: Device) -> Session
 }
 
 // Says a line that is kept to the device, and lays the answer into the buffer from a place.
-fn tell(d: Device, t: Text, out: &mut [u8], at: usize) -> Told
+fn tell(d: Chip, t: Text, out: &mut [u8], at: usize) -> Told
     ensures { λ r. ⌜ r .device ≡ outcomeBy d t .device ⌝ }
     ensures { λ r. ⌜ now (out .exit) ≡ laidOf (now (out .entry)) at (answerText (outcomeBy d t .answer)) ⌝ }
     ensures { λ r. ⌜ r .len ≡ cond (fits (now (out .entry)) at (answerText (outcomeBy d t .answer))) (at + length (answerText (outcomeBy d t .answer))) at ⌝ }
 {
-    let o = event::event(d, lines::event_of_line(t));
+    let o = chip::event(d, lines::event_of_line(t));
     let e = o.device;
     let a = o.answer;
     let n = texts::lay(texts::answer_text(a), out, at);

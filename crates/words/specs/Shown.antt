@@ -31,6 +31,11 @@ lineEnd = lineFeed ∷ []
 unfoldable pub named : List ℕ → Bool → List ℕ
 named w f = w ++ ((if f then code "1" else code "0") ∷ [])
 
+-- paper 02, W-209: "pointer and state", what a Z8536 has beside its core
+unfoldable pub pointerLine : ℕ → Bool → List ℕ
+pointerLine pointer pointed =
+    spelled "Z8536 pointer   " ++ byteCell pointer ++ named (spelled "  state ") pointed ++ lineEnd
+
 -- paper 02, W-205: "a version 1 image restores to a device that keeps the old rule"
 unfoldable pub versionLine : ℕ → List ℕ
 versionLine version = if version == 1 then spelled "version         1\n" else spelled "version         2\n"

@@ -1,7 +1,7 @@
 // The lines that have no columns.
 ghost use mathlib.Core.Path.{_≡_};
 ghost use Rattle.texts.specs.Kept.{noText, typed};
-ghost use Rattle.words.specs.Shown.{versionLine, masterLine, linkLine, levelsLine, requestLine, acknowledgeLine};
+ghost use Rattle.words.specs.Shown.{pointerLine, versionLine, masterLine, linkLine, levelsLine, requestLine, acknowledgeLine};
 use crate::cells::bit;
 use crate::cells::byte_cell;
 use crate::cells::named;
@@ -35,6 +35,14 @@ pub(crate) fn version_line(version: u8) -> Text
         return word(t, b"version         1\n");
     }
     word(t, b"version         2\n")
+}
+
+// What a Z8536 has beside its core: the pointer, and 1 where it was set just now.
+pub fn pointer_line(pointer: u8, pointed: bool) -> Text
+    ensures { λ r. ⌜ r ≡ typed noText (pointerLine pointer pointed) ⌝ }
+{
+    let t = byte_cell(word(texts::no_text(), b"Z8536 pointer   "), pointer);
+    push(named(t, b"  state ", pointed), b'\n')
 }
 
 pub(crate) fn master_line(m: u8) -> Text

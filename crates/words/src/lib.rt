@@ -6,5 +6,6 @@ mod ports_shown;
 mod shown;
 mod sources_shown;
 
+pub use heads::pointer_line;
 pub use shown::LINES;
 pub use shown::line;

@@ -1,43 +1,35 @@
 use Prim.Native.Nat.{ℕ, _<_, _≤_}
-use mathlib.Core.Path.{_≡_, sym, ap, subst, _∙_}
+use mathlib.Core.Path.{_≡_, sym, subst, _∙_}
 use mathlib.Core.Bool.{true}
 use mathlib.Core.List.{List, _++_}
 use native.Mathlib.Omega.{arith}
 use denote.Ref.{now}
 use lib.ListN.{length, drop}
-use borrow.Author.Tests.{eq-eqb, ne-eqb, not-true, not-false}
+use borrow.Author.Tests.{not-true, not-false}
 use Rattle.rules.specs.declared.Device.{Device}
 use Rattle.rules.specs.Record.{imageLen}
 use Rattle.rules.specs.Sound.{soundOf}
-use Rattle.bodies.specs.Layout.{Layout, layout1, layout2, layoutOf, lengthOf}
+use Rattle.bodies.specs.Layout.{layoutOf, lengthOf}
 use Rattle.bodies.specs.Written.{imageOf}
 use Rattle.bodies.proofs.LayoutLaw.{length-of}
 use Rattle.image.specs.Image.{saveCode, savedOf}
 use Rattle.image.proofs.Codes.{save-9, save-7, save-0}
 use Rattle.image.proofs.Answers.{saved-whole, untouched}
+use Rattle.image.proofs.Laying.{size-1, size-2, over-1, over-2}
 use borrow.Author.Needs.{needs}
 use Rattle.image.proofs.save.Statement.{statement}
 use Rattle.image.proofs.save.Tie as tie
-
--- the layout of a record whose version is 1, or is not
-old : (d : Device) → d .version ≡ 1 → layoutOf d ≡ layout1
-unfolding layoutOf
-old d e = simp (eq-eqb (d .version) 1 e)
-
-new : (d : Device) → (d .version ≡ 1 → ⊥) → layoutOf d ≡ layout2
-unfolding layoutOf
-new d e = simp (ne-eqb (d .version) 1 e)
 
 -- a refused save
 refused : (d : Device) (e : List ℕ) (n : ℕ) → saveCode d (length e) ≡ n → (n ≡ 0 → ⊥) → (n ≡ saveCode d (length e)) × (e ≡ savedOf d e)
 refused d e n code not-0 = (sym code, sym (untouched d e (λ h. not-0 (sym code ∙ h))))
 
--- a sound record, and a buffer that has room, written in that layout
-filled : (d : Device) (e exit : List ℕ) (l : Layout) → layoutOf d ≡ l → soundOf d ≡ true → imageLen (d .version) ≤ length e
-    → exit ≡ imageOf d ++ drop (lengthOf l) e → (0 ≡ saveCode d (length e)) × (exit ≡ savedOf d e)
-filled d e exit l is sound room written =
+-- a sound record, written into a buffer that has room
+filled : (d : Device) (e exit : List ℕ) → soundOf d ≡ true → imageLen (d .version) ≤ length e
+    → exit ≡ imageOf d ++ drop (lengthOf (layoutOf d)) e → (0 ≡ saveCode d (length e)) × (exit ≡ savedOf d e)
+filled d e exit sound room written =
     let code = save-0 d (length e) .1 (sound, subst (λ (n : ℕ). n ≤ length e) (sym (length-of d)) room) in
-    (sym code, written ∙ ap (λ (k : Layout). imageOf d ++ drop (lengthOf k) e) (sym is) ∙ sym (saved-whole d e code))
+    (sym code, written ∙ sym (saved-whole d e code))
 
 sound-requires : tie.Need-sound-requires
 sound-requires c κs = search needs
@@ -59,19 +51,27 @@ returns-2 c =
     let short = subst (λ (n : ℕ). length (now (a .buf)) < n) (c .before .image-len .ensures ∙ sym (length-of (a .d))) (c .if2 .taken) in
     refused (a .d) (now (a .buf)) 7 (save-7 (a .d) (length (now (a .buf))) .1 (sound, short)) (λ e. omega arith)
 
-write-old-requires : tie.Need-write-old-requires
-write-old-requires c κs =
-    let at-if2 = c .before .before .before in
-    let a = at-if2 .before .before .before .before .before .args in
-    let l = old (a .d) (c .before .if3 .taken) in
-    (subst (λ (n : ℕ). n ≤ length (now (a .buf))) (at-if2 .before .image-len .ensures ∙ sym (length-of (a .d)) ∙ ap lengthOf l) (at-if2 .if2 .left), l)
+slice-aggregate-write-by : tie.Need-slice-aggregate-write-by
+slice-aggregate-write-by c = search needs
 
-write-new-requires : tie.Need-write-new-requires
-write-new-requires c κs =
-    let at-if2 = c .before .before .before in
+write-by-requires : tie.Need-write-by-requires
+write-by-requires c κs =
+    let at-if3 = c .before .before in
+    let at-if2 = at-if3 .before .before in
     let a = at-if2 .before .before .before .before .before .args in
-    let l = new (a .d) (c .before .if3 .left) in
-    (subst (λ (n : ℕ). n ≤ length (now (a .buf))) (at-if2 .before .image-len .ensures ∙ sym (length-of (a .d)) ∙ ap lengthOf l) (at-if2 .if2 .left), l)
+    let room = subst (λ (n : ℕ). n ≤ length (now (a .buf))) (at-if2 .before .image-len .ensures) (at-if2 .if2 .left) in
+    subst (λ (n : ℕ). n ≤ length (now (a .buf))) (sym (size-1 (a .d) (at-if3 .if3 .taken))) room
+
+slice-aggregate-write-by-2 : tie.Need-slice-aggregate-write-by-2
+slice-aggregate-write-by-2 c = search needs
+
+write-by-requires-2 : tie.Need-write-by-requires-2
+write-by-requires-2 c κs =
+    let at-if3 = c .before .before in
+    let at-if2 = at-if3 .before .before in
+    let a = at-if2 .before .before .before .before .before .args in
+    let room = subst (λ (n : ℕ). n ≤ length (now (a .buf))) (at-if2 .before .image-len .ensures) (at-if2 .if2 .left) in
+    subst (λ (n : ℕ). n ≤ length (now (a .buf))) (sym (size-2 (a .d) (at-if3 .if3 .left))) room
 
 same-length : tie.Need-same-length
 same-length c = search needs
@@ -79,13 +79,13 @@ same-length c = search needs
 returns-3 : tie.Need-returns-3
 returns-3 c =
     let written = c .before .before in
-    let at-if3 = written .before .before in
+    let at-if3 = written .before .before .before in
     let at-if2 = at-if3 .before .before in
     let at-if1 = at-if2 .before .before in
     let a = at-if1 .before .before .before .args in
     let sound = sym (at-if1 .before .sound .ensures) ∙ not-false _ (at-if1 .if1 .left) in
     let room = subst (λ (n : ℕ). n ≤ length (now (a .buf))) (at-if2 .before .image-len .ensures) (at-if2 .if2 .left) in
-    filled (a .d) (now (a .buf)) _ _ (old (a .d) (at-if3 .if3 .taken)) sound room (written .write-old .ensures)
+    filled (a .d) (now (a .buf)) _ sound room (written .write-by .ensures ∙ over-1 (a .d) (now (a .buf)) (at-if3 .if3 .taken))
 
 same-length-2 : tie.Need-same-length-2
 same-length-2 c = search needs
@@ -93,13 +93,13 @@ same-length-2 c = search needs
 returns-4 : tie.Need-returns-4
 returns-4 c =
     let written = c .before .before in
-    let at-if3 = written .before .before in
+    let at-if3 = written .before .before .before in
     let at-if2 = at-if3 .before .before in
     let at-if1 = at-if2 .before .before in
     let a = at-if1 .before .before .before .args in
     let sound = sym (at-if1 .before .sound .ensures) ∙ not-false _ (at-if1 .if1 .left) in
     let room = subst (λ (n : ℕ). n ≤ length (now (a .buf))) (at-if2 .before .image-len .ensures) (at-if2 .if2 .left) in
-    filled (a .d) (now (a .buf)) _ _ (new (a .d) (at-if3 .if3 .left)) sound room (written .write-new .ensures)
+    filled (a .d) (now (a .buf)) _ sound room (written .write-by2 .ensures ∙ over-2 (a .d) (now (a .buf)) (at-if3 .if3 .left))
 
 pub save-spec : {M : Type 1} → statement M
 save-spec =
@@ -109,8 +109,10 @@ save-spec =
     returns
     image-len-requires
     returns-2
-    write-old-requires
-    write-new-requires
+    slice-aggregate-write-by
+    write-by-requires
+    slice-aggregate-write-by-2
+    write-by-requires-2
     same-length
     returns-3
     same-length-2

@@ -5,13 +5,10 @@ use Rattle.image_vectors.proofs.print_codes.Statement.{statement}
 use Rattle.image_vectors.proofs.print_codes.Tie as tie
 
 abbrev Inv-loop : tie.InvT-loop
-Inv-loop text l₀ i₀ l i = i ≤ length text
+Inv-loop piece m₀ i₀ m i = i ≤ length piece
 
 abbrev μ-loop : tie.MeasureT-loop
-μ-loop text l₀ i₀ l i = length text - i
-
-empty-requires : tie.Need-empty-requires Inv-loop μ-loop
-empty-requires c κs = tt
+μ-loop piece m₀ i₀ m i = length piece - i
 
 loop-holds : tie.Need-loop-holds Inv-loop μ-loop
 loop-holds c = omega arith
@@ -40,7 +37,6 @@ print-codes-spec =
     (tie.spec
     Inv-loop
     μ-loop
-    empty-requires
     loop-holds
     shared-slice-read-next
     next-requires

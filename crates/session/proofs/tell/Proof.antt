@@ -5,8 +5,8 @@ use mathlib.Core.Path.{_≡_, ap, _∙_}
 use borrow.Author.Needs.{needs}
 use lib.ListN.{length}
 use denote.Ref.{now}
-use Rattle.rules.specs.Events.{eventOf}
-use Rattle.rules.specs.declared.Outcome.{Outcome}
+use Rattle.chip.specs.Chips.{eventChip}
+use Rattle.chip.specs.declared.OutcomeChip.{OutcomeChip}
 use Rattle.texts.proofs.Printed.{answer-bytes}
 use Rattle.texts.specs.Answers.{answerText}
 use Rattle.basics.specs.Buffer.{fits, laidOf}
@@ -37,10 +37,10 @@ returns c =
     let v = x .before .before .before in
     let a = v .before .before .before .args in
     let o : v .event .result ≡ outcomeBy (a .d) (a .t) =
-    v .event .ensures ∙ ap (eventOf (a .d)) (v .before .event-of-line .ensures) in
+    v .event .ensures ∙ ap (eventChip (a .d)) (v .before .event-of-line .ensures) in
     let w : bytesOf (x .answer-text .result) ≡ answerText (outcomeBy (a .d) (a .t) .answer) =
-    ap bytesOf (x .answer-text .ensures) ∙ answer-bytes (v .event .result .answer) ∙ ap (λ (r : Outcome). answerText (r .answer)) o in (
-      ap (λ (r : Outcome). r .device) o,
+    ap bytesOf (x .answer-text .ensures) ∙ answer-bytes (v .event .result .answer) ∙ ap (λ (r : OutcomeChip). answerText (r .answer)) o in (
+      ap (λ (r : OutcomeChip). r .device) o,
       (l .lay .ensures .0 ∙ ap (laidOf (now (a .out)) (a .at)) w, l .lay .ensures .1 ∙ ap (λ (b : List ℕ). cond (fits (now (a .out)) (a .at) b) (a .at + length b) (a .at)) w),
     )
 

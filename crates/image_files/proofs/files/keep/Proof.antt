@@ -1,30 +1,40 @@
 use Prim.Native.Nat.{ℕ}
-use mathlib.Core.Bool.{false}
+use mathlib.Core.Bool.{Bool, true, false, not, cond, true≢false}
 use mathlib.Core.Path.{_≡_, sym, _∙_}
 use native.Mathlib.Omega.{arith}
 use borrow.Author.Needs.{needs}
-use Rattle.rules.specs.declared.Device.{Device}
-use Rattle.image.specs.Image.{saveCode}
 use Rattle.rules.specs.Sound.{soundOf}
+use Rattle.z8536.specs.Z8536.{soundZ8536}
+use Rattle.image.specs.Image.{saveCode}
+use Rattle.image.specs.Pointed.{saveCodeZ8536}
+use Rattle.chip.specs.declared.Chip.{Chip}
+use Rattle.chip.specs.Chips.{coreOf, soundChip}
+use Rattle.chip_image.specs.ChipImage.{saveCodeChip}
 use Rattle.image_files.proofs.files.keep.Statement.{statement}
 use Rattle.image_files.proofs.files.keep.Tie as tie
 
 -- an unsound record is not saved
-no-save : (d : Device) (n : ℕ) → soundOf d ≡ false → saveCode d n ≡ 0 → ⊥
-unfolding saveCode
-no-save d n u e = ne-nine (simp-code ∙ e)
+no-save : (d : Chip) (n : ℕ) → soundChip d ≡ false → saveCodeChip d n ≡ 0 → ⊥
+unfolding soundChip saveCodeChip saveCode saveCodeZ8536
+no-save d n u e = by-kind (d .z8536) u e
   where
-    simp-code : 9 ≡ saveCode d n
-    simp-code = simp u
+    never : (b : Bool) (m : ℕ) → b ≡ false → cond (not b) 9 m ≡ 0 → ⊥
+    never true m h k = absurd (true≢false h)
+    never false m h k = absurd (omega arith)
 
-    ne-nine : _≡_ {A = ℕ} 9 0 → ⊥
-    ne-nine e = omega arith
+    by-kind : (z : Bool) → cond z (soundZ8536 (d .device)) (soundOf (coreOf d)) ≡ false
+        → cond z (saveCodeZ8536 (d .device) n) (saveCode (coreOf d) n) ≡ 0 → ⊥
+    by-kind true h k = never (soundZ8536 (d .device)) _ h k
+    by-kind false h k = never (soundOf (coreOf d)) _ h k
 
 slice-aggregate-save : tie.Need-slice-aggregate-save
 slice-aggregate-save c = search needs
 
 save-requires : tie.Need-save-requires
 save-requires c κs = search needs
+
+cast-refusal-line : tie.Need-cast-refusal-line
+cast-refusal-line c = search needs
 
 refusal-line-requires : tie.Need-refusal-line-requires
 refusal-line-requires c κs = search needs
@@ -61,6 +71,7 @@ keep-spec =
     (tie.spec
     slice-aggregate-save
     save-requires
+    cast-refusal-line
     refusal-line-requires
     say-requires
     returns

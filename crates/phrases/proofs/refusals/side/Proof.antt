@@ -8,9 +8,6 @@ use Rattle.phrases.proofs.refusals.side.Tie as tie
 no-text-requires : tie.Need-no-text-requires
 no-text-requires c κs = search needs
 
-image-len-requires : tie.Need-image-len-requires
-image-len-requires c κs = search needs
-
 slice-aggregate-word : tie.Need-slice-aggregate-word
 slice-aggregate-word c = search needs
 
@@ -20,13 +17,7 @@ word-requires c κs = search needs
 returns : tie.Need-returns
 unfolding side spelled
 returns c =
-    let at-length = c .before .before .before in
-    simp (
-      c .word .ensures,
-      ← at-length .image-len .ensures,
-      lt-ltb _ _ (c .before .before .if1 .taken),
-      at-length .before .no-text .ensures,
-    )
+    simp (c .word .ensures, lt-ltb _ _ (c .before .before .if1 .taken), c .before .before .before .no-text .ensures)
 
 slice-aggregate-word-2 : tie.Need-slice-aggregate-word-2
 slice-aggregate-word-2 c = search needs
@@ -37,20 +28,13 @@ word-requires-2 c κs = search needs
 returns-2 : tie.Need-returns-2
 unfolding side spelled
 returns-2 c =
-    let at-length = c .before .before .before in
-    simp (
-      c .word2 .ensures,
-      ← at-length .image-len .ensures,
-      le-ltb _ _ (c .before .before .if1 .left),
-      at-length .before .no-text .ensures,
-    )
+    simp (c .word2 .ensures, le-ltb _ _ (c .before .before .if1 .left), c .before .before .before .no-text .ensures)
 
 pub side-spec : {M : Type 1} → statement M
 side-spec =
     tie.close
     (tie.spec
     no-text-requires
-    image-len-requires
     slice-aggregate-word
     word-requires
     returns

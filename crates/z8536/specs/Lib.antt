@@ -1,0 +1,2 @@
+pub mod Z8536
+pub mod Runs
