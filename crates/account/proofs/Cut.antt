@@ -9,13 +9,14 @@ use Rattle.rules.specs.declared.Device.{Device}
 use Rattle.rules.specs.declared.Event.{Event}
 use Rattle.rules.specs.Record.{Shaped}
 use Rattle.rules.specs.Sound.{soundOf}
+use Rattle.basics.specs.Runs.{recordThrough}
 use Rattle.theorems.specs.Traces.{recordAfter}
 use Rattle.theorems.proofs.Traces.{list-sound, list-shaped}
 use Rattle.account.specs.Account.{after, over, overCut}
 
 module _ (f : Device → Event → List ℕ) where
   cut-over : (d : Device) (l m : List Event) → over f d (l ++ m) ≡ over f d l ++ over f (recordAfter d l) m
-  unfolding over recordAfter
+  unfolding over recordThrough
   cut-over d [] m = refl
   cut-over d (e ∷ l) m =
       ap (λ (n : List ℕ). f d e ++ n) (cut-over (after d e) l m)

@@ -11,15 +11,15 @@ use Rattle.rules.specs.Events.{isX, isW, isR, isP, isT, isK, outsideSet, pinsEf
 use Rattle.rules.specs.Events.{clocksEffect, acknowledgeEffect, ieiEffect, effectOf}
 use Rattle.basics.proofs.Tests.{never}
 use Rattle.theorems.proofs.Shapes.{outside-shaped}
-use Rattle.account.specs.Account.{accepted, ends}
+use Rattle.account.specs.Account.{isAccepted, endsAccount}
 use Rattle.account.proofs.Kept.{kept-same, alike-same, ran-alike, ran-transfer}
 use Rattle.account.proofs.Turns.{either, Standing, Turn, steps, neither, refused, rests-by, around-by}
 use Rattle.account.proofs.Writing.{write-turn}
 use Rattle.account.proofs.Reading.{read-turn}
 
-module _ (p : ℕ) (l : p < 2) (d : Device) (h : Standing p d) (e : Event) (stays : ends p d e ≡ false) (taken : accepted d e ≡ true) where
+module _ (p : ℕ) (l : p < 2) (d : Device) (h : Standing p d) (e : Event) (stays : endsAccount p d e ≡ false) (taken : isAccepted d e ≡ true) where
   reset-turn : So (isX e) → Turn p d e
-  unfolding ends
+  unfolding endsAccount
   reset-turn x = never stays (simp (taken, x))
 
   pins-turn : So (isP e) → Turn p d e
@@ -59,5 +59,5 @@ module _ (p : ℕ) (l : p < 2) (d : Device) (h : Standing p d) (e : Event) (stay
       (λ a.
       rests-by p d e taken (ieiEffect d (e .a)) (simp (x, w, r, q, t, a)) (alike-same d _ refl refl refl) refl (neither p d e w r)))))))
 
-pub turn : (p : ℕ) → p < 2 → (d : Device) → Standing p d → (e : Event) → ends p d e ≡ false → Turn p d e
-turn p l d h e stays = either (accepted d e) (accepted-turn p l d h e stays) (refused p d e)
+pub turn : (p : ℕ) → p < 2 → (d : Device) → Standing p d → (e : Event) → endsAccount p d e ≡ false → Turn p d e
+turn p l d h e stays = either (isAccepted d e) (accepted-turn p l d h e stays) (refused p d e)

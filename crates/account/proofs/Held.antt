@@ -11,7 +11,7 @@ use Rattle.rules.specs.declared.Transfer.{Transfer}
 use Rattle.rules.specs.With.{transfer}
 use Rattle.rules.specs.Moves.{joined, shifted}
 use Rattle.basics.proofs.Places.{each2, each3}
-use Rattle.account.specs.Account.{entry}
+use Rattle.account.specs.Account.{byteIf}
 
 abbrev pub inside : Transfer → List ℕ
 inside t = take (t .bytes) (t .front ∷ t .behind ∷ [])
@@ -33,6 +33,6 @@ shifted-inside t unfinished pair l =
     (λ n. absurd (n refl)) (λ _. refl) (λ _. refl) (t .bytes) (omega (arith, l))
 
 -- two tests that are one, with one byte where they pass
-pub same-entry : (v w : Bool) (a b : ℕ) → v ≡ w → (So w → a ≡ b) → entry v a ≡ entry w b
-same-entry v true a b e f = ap (λ (u : Bool). entry u a) e ∙ ap (λ (n : ℕ). n ∷ []) (f refl)
-same-entry v false a b e f = ap (λ (u : Bool). entry u a) e
+pub same-byte : (v w : Bool) (a b : ℕ) → v ≡ w → (So w → a ≡ b) → byteIf v a ≡ byteIf w b
+same-byte v true a b e f = ap (λ (u : Bool). byteIf u a) e ∙ ap (λ (n : ℕ). n ∷ []) (f refl)
+same-byte v false a b e f = ap (λ (u : Bool). byteIf u a) e

@@ -16,5 +16,7 @@ pub mod Pins
 pub mod Over
 pub mod Standing
 pub mod Cut
+-- Where an account begins.
+pub mod Begins
 -- Every byte leaves once.
 pub mod Every

@@ -8,21 +8,22 @@ use native.Mathlib.Omega.{arith}
 use lib.ListN.{getD}
 use Rattle.rules.specs.declared.Device.{Device}
 use Rattle.rules.specs.declared.Event.{Event}
+use Rattle.basics.specs.Runs.{recordThrough}
 use Rattle.basics.proofs.Tests.{left, right, not-so}
 use Rattle.theorems.specs.Traces.{recordAfter}
-use Rattle.account.specs.Account.{after, heldOf, over, ends, stands, Throughout, times}
+use Rattle.account.specs.Account.{after, heldOf, over, endsAccount, accountStands, Throughout, times}
 
 -- what holds of the records from which the port goes on standing
-module _ (p : ℕ) (Holds : Device → Type 0) (next : (d : Device) (e : Event) → ends p d e ≡ false → Holds d → Holds (after d e)) where
+module _ (p : ℕ) (Holds : Device → Type 0) (next : (d : Device) (e : Event) → endsAccount p d e ≡ false → Holds d → Holds (after d e)) where
   module _ (comes goes : Device → Event → List ℕ)
-      (one : (d : Device) (e : Event) → ends p d e ≡ false → Holds d → heldOf d p ++ comes d e ≡ goes d e ++ heldOf (after d e) p) where
-    pub account : (d : Device) (l : List Event) → stands p d l ≡ true → Holds d
+      (one : (d : Device) (e : Event) → endsAccount p d e ≡ false → Holds d → heldOf d p ++ comes d e ≡ goes d e ++ heldOf (after d e) p) where
+    pub account : (d : Device) (l : List Event) → accountStands p d l ≡ true → Holds d
         → heldOf d p ++ over comes d l ≡ over goes d l ++ heldOf (recordAfter d l) p
-    unfolding over stands recordAfter
+    unfolding over accountStands recordThrough
     account d [] t h = append-nil (heldOf d p)
     account d (e ∷ l) t h =
-        let z = not-so (ends p d e) (left (not (ends p d e)) (stands p (after d e) l) t) in
-        let rest = account (after d e) l (right (not (ends p d e)) (stands p (after d e) l) t) (next d e z h) in
+        let z = not-so (endsAccount p d e) (left (not (endsAccount p d e)) (accountStands p (after d e) l) t) in
+        let rest = account (after d e) l (right (not (endsAccount p d e)) (accountStands p (after d e) l) t) (next d e z h) in
         sym (append-assoc (heldOf d p) (comes d e) (over comes (after d e) l))
         ∙ ap (λ (m : List ℕ). m ++ over comes (after d e) l) (one d e z h)
         ∙ append-assoc (goes d e) (heldOf (after d e) p) (over comes (after d e) l) ∙ ap (λ (m : List ℕ). goes d e ++ m) rest
@@ -31,12 +32,12 @@ module _ (p : ℕ) (Holds : Device → Type 0) (next : (d : Device) (e : Event) 
   -- two ways to look that see the same at every event
   module _ (Given : Device → Type 0) (these those : Device → Event → List ℕ)
       (one : (d : Device) (e : Event) → Holds d → Given d → these d e ≡ those d e) where
-    pub over-same : (d : Device) (l : List Event) → stands p d l ≡ true → Holds d → Throughout Given d l → over these d l ≡ over those d l
-    unfolding over stands
+    pub over-same : (d : Device) (l : List Event) → accountStands p d l ≡ true → Holds d → Throughout Given d l → over these d l ≡ over those d l
+    unfolding over accountStands
     over-same d [] t h g = refl
     over-same d (e ∷ l) t h g =
-        let z = not-so (ends p d e) (left (not (ends p d e)) (stands p (after d e) l) t) in
-        ap₂ _++_ (one d e h (g .0)) (over-same (after d e) l (right (not (ends p d e)) (stands p (after d e) l) t) (next d e z h) (g .1))
+        let z = not-so (endsAccount p d e) (left (not (endsAccount p d e)) (accountStands p (after d e) l) t) in
+        ap₂ _++_ (one d e h (g .0)) (over-same (after d e) l (right (not (endsAccount p d e)) (accountStands p (after d e) l) t) (next d e z h) (g .1))
 
 -- ---- how often
 times-append : (b : ℕ) (l m : List ℕ) → times b (l ++ m) ≡ times b l + times b m

@@ -22,7 +22,7 @@ use Rattle.theorems.proofs.Clauses.{sound-parts}
 use Rattle.theorems.proofs.Shown.{no-bit, available-held, data-register, pins-shown}
 use Rattle.account.specs.Account.{lineBit, lineAt, heeded, acknowledges, after, acknowledgedBy, strobedBy, HoldsBytes}
 use Rattle.account.specs.Account.{Driven, linePin, acknowledgedAtPins, strobedAtPins}
-use Rattle.account.proofs.Held.{same-entry}
+use Rattle.account.proofs.Held.{same-byte}
 use Rattle.account.proofs.Moved.{front-byte}
 use Rattle.account.proofs.Lines.{line-shown}
 
@@ -88,7 +88,7 @@ module _ (p : ℕ) (l : p < 2) (d : Device) (shaken : handshakes (patternAt d p)
   pub strobed-pins : strobedAtPins p d e ≡ strobedBy p d e
   unfolding strobedAtPins strobedBy
   strobed-pins =
-      same-entry _ _ _ _
+      same-byte _ _ _ _
       (where-so (linePin d p) (lineAt d p) (acknowledges d (after d e) p) (seen-pin d p l shaken (after d e) (driven .0))) (λ _. refl)
 
   module _ (k : Shaped d) (s : soundOf d ≡ true) (on : portEnabled d p ≡ true) (o : So (outputs (patternAt d p)))
@@ -103,6 +103,6 @@ module _ (p : ℕ) (l : p < 2) (d : Device) (shaken : handshakes (patternAt d p)
     unfolding acknowledgedAtPins acknowledgedBy
     acknowledged-pins =
         let fell = acknowledges d (after d e) p in
-        same-entry _ _ _ _
+        same-byte _ _ _ _
         (where-so (not (linePin d p)) (not (lineAt d p)) fell (λ a. ap not (seen-pin d p l shaken (after d e) (driven .0) a)))
         (λ t. byte-shown d p l o on (driven .1) (put-small (not-so (lineAt d p) (left (not (lineAt d p)) fell t))))

@@ -23,12 +23,12 @@ use Rattle.rules.specs.Events.{isR, noByte, effect, readEffect}
 use Rattle.rules.specs.Events.{effectOf}
 use Rattle.basics.proofs.Tests.{so-both, left, right, never, by-test}
 use Rattle.theorems.proofs.Refusals.{code-11}
-use Rattle.account.specs.Account.{accepted, readBy}
+use Rattle.account.specs.Account.{isAccepted, readBy}
 use Rattle.account.proofs.Kept.{Alike, alike-same, alike-refl, given-alike, given-other}
 use Rattle.account.proofs.Turns.{either, Standing, Turn, gives, awake, code, after-by}
 use Rattle.account.proofs.Turns.{value-by, unwritten, rests-by, data-kind, data-within, data-port}
 
-module _ (p : ℕ) (l : p < 2) (d : Device) (h : Standing p d) (e : Event) (taken : accepted d e ≡ true) (r : So (isR e)) where
+module _ (p : ℕ) (l : p < 2) (d : Device) (h : Standing p d) (e : Event) (taken : isAccepted d e ≡ true) (r : So (isR e)) where
   abbrev q : Pattern
   q = patternAt d p
 

@@ -17,7 +17,7 @@ use Rattle.rules.specs.Sound.{soundOf}
 use Rattle.basics.proofs.Tests.{right, not-so, never}
 use Rattle.theorems.proofs.Parts.{no-input}
 use Rattle.theorems.proofs.TransferLaws.{two-deep}
-use Rattle.account.specs.Account.{lineAt, acknowledges, after, writtenBy, acknowledgedBy, strobedBy, readBy, heldOf, HoldsBytes}
+use Rattle.account.specs.Account.{lineAt, acknowledges, after, dataWrittenBy, acknowledgedBy, strobedBy, readBy, heldOf, HoldsBytes}
 use Rattle.account.proofs.Held.{inside}
 use Rattle.account.proofs.Kept.{SetUp, Alike, alike-trans, alike-set-up, moves-alike, stored-alike, relined-given, relined-held, Around}
 use Rattle.account.proofs.Lines.{no-rise, ackin-alike, unacknowledged}
@@ -76,7 +76,7 @@ module _ (p : ℕ) (l : p < 2) (d : Device) (k : Shaped d) (s : soundOf d ≡ tr
     unfolding oreOf
     room-out r = omega (arith, ltb-true n (depth q) (right (outputs q) (ltb n (depth q)) r), two-deep q)
 
-    pub out-turn : Turn p d e → heldOf d p ++ writtenBy p d e ≡ acknowledgedBy p d e ++ heldOf (after d e) p
+    pub out-turn : Turn p d e → heldOf d p ++ dataWrittenBy p d e ≡ acknowledgedBy p d e ++ heldOf (after d e) p
     out-turn (rests a t quiet) =
         ap (λ (m : List ℕ). heldOf d p ++ m) (quiet .written o) ∙ append-nil (heldOf d p)
         ∙ ap₂ _++_ (sym (none-acknowledged p l d e shaken-out a)) (unfold heldOf in (ap inside (sym t)))

@@ -13,7 +13,7 @@ use Rattle.basics.proofs.Tests.{never}
 use Rattle.theorems.proofs.Parts.{no-input}
 use Rattle.theorems.proofs.Soundness.{event-sound}
 use Rattle.theorems.proofs.Shapes.{event-shaped}
-use Rattle.account.specs.Account.{after, writtenBy, acknowledgedBy, strobedBy, readBy, heldOf, HoldsBytes, ends}
+use Rattle.account.specs.Account.{after, dataWrittenBy, acknowledgedBy, strobedBy, readBy, heldOf, HoldsBytes, endsAccount}
 use Rattle.account.specs.Account.{Driven, acknowledgedAtPins, strobedAtPins}
 use Rattle.account.proofs.Kept.{SetUp}
 use Rattle.account.proofs.Turns.{Standing, Turn, rests, steps, stores, gives}
@@ -23,13 +23,13 @@ use Rattle.account.proofs.Over.{AllBytes, bytes-joined, bytes-behind}
 use Rattle.account.proofs.Pins.{strobed-pins, acknowledged-pins}
 
 module _ (p : ℕ) (l : p < 2) where
-  turn-of : (d : Device) (e : Event) → ends p d e ≡ false → Standing p d → Turn p d e
+  turn-of : (d : Device) (e : Event) → endsAccount p d e ≡ false → Standing p d → Turn p d e
   turn-of d e z h = turn p l d h e z
 
-  set-up-of : (d : Device) (e : Event) → ends p d e ≡ false → Standing p d → SetUp p d (after d e)
+  set-up-of : (d : Device) (e : Event) → endsAccount p d e ≡ false → Standing p d → SetUp p d (after d e)
   set-up-of d e z h = set-up-after p l d (h .shaped) (h .shaken) e (turn-of d e z h)
 
-  standing-after : (d : Device) (e : Event) → ends p d e ≡ false → Standing p d → Standing p (after d e)
+  standing-after : (d : Device) (e : Event) → endsAccount p d e ≡ false → Standing p d → Standing p (after d e)
   standing-after d e z h =
       let u = set-up-of d e z h in
       record {
@@ -45,11 +45,11 @@ pub record Takes (p : ℕ) (d : Device) : Type 0 where
   pub input : So (inputs (patternAt d p))
 
 module _ (p : ℕ) (l : p < 2) (d : Device) (e : Event) where
-  pub takes-after : ends p d e ≡ false → Takes p d → Takes p (after d e)
+  pub takes-after : endsAccount p d e ≡ false → Takes p d → Takes p (after d e)
   takes-after z h =
       record { standing = standing-after p l d e z (h .standing); input = simp (set-up-of p l d e z (h .standing) .mode) (h .input) }
 
-  pub takes-one : ends p d e ≡ false → Takes p d → heldOf d p ++ strobedBy p d e ≡ readBy p d e ++ heldOf (after d e) p
+  pub takes-one : endsAccount p d e ≡ false → Takes p d → heldOf d p ++ strobedBy p d e ≡ readBy p d e ++ heldOf (after d e) p
   takes-one z h = let s = h .standing in in-turn p l d (s .shaped) (s .sound) e (h .input) (turn-of p l d e z s)
 
   pub takes-pins : Takes p d → Driven p d → strobedAtPins p d e ≡ strobedBy p d e
@@ -69,17 +69,17 @@ one-byte b h zero = h
 one-byte b h (suc k) = lit< tt
 
 -- "5: a byte .. above 255" is not written
-written-bytes : (p : ℕ) (d : Device) (e : Event) → So (outputs (patternAt d p)) → Turn p d e → AllBytes (writtenBy p d e)
+written-bytes : (p : ℕ) (d : Device) (e : Event) → So (outputs (patternAt d p)) → Turn p d e → AllBytes (dataWrittenBy p d e)
 written-bytes p d e o (rests a t quiet) = subst AllBytes (sym (quiet .written o)) no-byte
 written-bytes p d e o (steps d1 kept a quiet) = subst AllBytes (sym (quiet .written o)) no-byte
 written-bytes p d e o (stores _ room small a w) = subst AllBytes (sym w) (one-byte (e .b) small)
 written-bytes p d e o (gives i some q w) = never (no-input (patternAt d p) o) i
 
 module _ (p : ℕ) (l : p < 2) (d : Device) (e : Event) where
-  pub gives-one : ends p d e ≡ false → Gives p d → heldOf d p ++ writtenBy p d e ≡ acknowledgedBy p d e ++ heldOf (after d e) p
+  pub gives-one : endsAccount p d e ≡ false → Gives p d → heldOf d p ++ dataWrittenBy p d e ≡ acknowledgedBy p d e ++ heldOf (after d e) p
   gives-one z h = let s = h .standing in out-turn p l d (s .shaped) (s .sound) e (h .output) (h .bytes) (turn-of p l d e z s)
 
-  pub gives-after : ends p d e ≡ false → Gives p d → Gives p (after d e)
+  pub gives-after : endsAccount p d e ≡ false → Gives p d → Gives p (after d e)
   gives-after z h =
       record {
         standing = standing-after p l d e z (h .standing);
@@ -87,7 +87,7 @@ module _ (p : ℕ) (l : p < 2) (d : Device) (e : Event) where
         bytes =
             bytes-behind (acknowledgedBy p d e) (heldOf (after d e) p)
             (subst AllBytes (gives-one z h)
-            (bytes-joined (heldOf d p) (writtenBy p d e) (h .bytes) (written-bytes p d e (h .output) (turn-of p l d e z (h .standing)))));
+            (bytes-joined (heldOf d p) (dataWrittenBy p d e) (h .bytes) (written-bytes p d e (h .output) (turn-of p l d e z (h .standing)))));
       }
 
   pub gives-pins : Gives p d → Driven p d → acknowledgedAtPins p d e ≡ acknowledgedBy p d e

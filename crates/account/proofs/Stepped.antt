@@ -24,8 +24,8 @@ use Rattle.basics.proofs.Tests.{left, each, not-so}
 use Rattle.theorems.proofs.Parts.{no-input}
 use Rattle.theorems.proofs.TransferLaws.{two-deep}
 use Rattle.theorems.proofs.Shown.{data-shown}
-use Rattle.account.specs.Account.{lineAt, heeded, acknowledges, after, entry, acknowledgedBy, strobedBy, heldOf, HoldsBytes}
-use Rattle.account.proofs.Held.{inside, same-entry}
+use Rattle.account.specs.Account.{lineAt, heeded, acknowledges, after, byteIf, acknowledgedBy, strobedBy, heldOf, HoldsBytes}
+use Rattle.account.proofs.Held.{inside, same-byte}
 use Rattle.account.proofs.Kept.{SetUp, set-up-trans, Kept, Alike, alike-trans, alike-set-up, moves-alike, Around}
 use Rattle.account.proofs.Lines.{ready-line, available-line, offers-can, ackin-alike, acknowledges-by}
 use Rattle.account.proofs.Lines.{path-arriving, level-arriving, arriving-alike}
@@ -112,7 +112,7 @@ module _ (p : ℕ) (l : p < 2) (d d1 : Device) (e : Event) (shaken : handshakes 
     unfolding canMove
     some-met t = eqb-false (transferAt x p .bytes) 0 (not-so (eqb (transferAt x p .bytes) 0) (simp no-input-met at (can-move t)))
 
-    goes : (v : Bool) → falls d x p ≡ v → heldOf x p ≡ entry v (transferAt x p .front) ++ heldOf f p
+    goes : (v : Bool) → falls d x p ≡ v → heldOf x p ≡ byteIf v (transferAt x p .front) ++ heldOf f p
     goes true t =
         left-held x (a .shaped) p l (simp (ap (λ (t : Transfer). t .bytes) transfer-met) (two-held d s p l)) (some-met t)
         ∙ ap (λ (m : List ℕ). transferAt x p .front ∷ m)
@@ -133,7 +133,7 @@ module _ (p : ℕ) (l : p < 2) (d d1 : Device) (e : Event) (shaken : handshakes 
     unfolding acknowledgedBy
     step-out =
         sym held-met ∙ goes _ refl
-        ∙ ap (λ (m : List ℕ). m ++ heldOf f p) (same-entry (falls d x p) _ _ _ seen-out (λ t. leaving (seen-out ∙ t)))
+        ∙ ap (λ (m : List ℕ). m ++ heldOf f p) (same-byte (falls d x p) _ _ _ seen-out (λ t. leaving (seen-out ∙ t)))
 
   -- ---- an input port
   module _ (k : Shaped d) (i : So (inputs (patternAt d p))) where
@@ -149,7 +149,7 @@ module _ (p : ℕ) (l : p < 2) (d d1 : Device) (e : Event) (shaken : handshakes 
         let room = ltb-true (transferAt x p .bytes) (depth (patternAt x p)) (simp input-met at (can-move s)) in
         omega (arith, room, two-deep (patternAt x p))
 
-    comes : (v : Bool) → falls d x p ≡ v → heldOf f p ≡ heldOf x p ++ entry v (pathAt x p)
+    comes : (v : Bool) → falls d x p ≡ v → heldOf f p ≡ heldOf x p ++ byteIf v (pathAt x p)
     comes true t =
         held-now ∙ ap (λ (y : Device). heldOf y p) (takes x (a .shaped) p l d t input-met) ∙ taken-held x (a .shaped) p l (room-met t)
     comes false t = held-now ∙ still-held x (a .shaped) p l d t ∙ sym (append-nil (heldOf x p))
@@ -163,4 +163,4 @@ module _ (p : ℕ) (l : p < 2) (d d1 : Device) (e : Event) (shaken : handshakes 
 
     pub step-in : heldOf d p ++ strobedBy p d e ≡ heldOf f p
     unfolding strobedBy
-    step-in = ap₂ _++_ (sym held-met) (sym (same-entry (falls d x p) _ _ _ seen-in (λ _. coming))) ∙ sym (comes _ refl)
+    step-in = ap₂ _++_ (sym held-met) (sym (same-byte (falls d x p) _ _ _ seen-in (λ _. coming))) ∙ sym (comes _ refl)

@@ -27,7 +27,7 @@ use Rattle.basics.proofs.Places.{each2}
 use Rattle.theorems.proofs.Parts.{handshake-awake}
 use Rattle.theorems.proofs.Clauses.{sound-parts}
 use Rattle.theorems.proofs.Refusals.{code-is, refused-keeps}
-use Rattle.account.specs.Account.{after, accepted, writtenBy, readBy}
+use Rattle.account.specs.Account.{after, isAccepted, dataWrittenBy, readBy}
 use Rattle.account.proofs.Kept.{Kept, Alike, alike-refl, alike-trans, Around, step-around, relined-alike, relined-transfer, relined-around}
 
 -- by a test, and by its value
@@ -37,20 +37,20 @@ either false f g = g refl
 
 -- nothing is written into an output port, or read from an input port
 pub record Quiet (p : ℕ) (d : Device) (e : Event) : Type 0 where
-  pub written : So (outputs (patternAt d p)) → writtenBy p d e ≡ []
+  pub written : So (outputs (patternAt d p)) → dataWrittenBy p d e ≡ []
   pub read : So (inputs (patternAt d p)) → readBy p d e ≡ []
 
 pub data Turn (p : ℕ) (d : Device) (e : Event) : Type 0 where
   rests : Alike d (after d e) → transferAt (after d e) p ≡ transferAt d p → Quiet p d e → Turn p d e
   steps : (d1 : Device) → Kept p d d1 → Around p d d1 (after d e) → Quiet p d e → Turn p d e
   stores : So (outputs (patternAt d p)) → So (oreAt d p) → e .b < 256 → Around p d (storedAt d p (e .b)) (after d e)
-      → writtenBy p d e ≡ e .b ∷ [] → Turn p d e
+      → dataWrittenBy p d e ≡ e .b ∷ [] → Turn p d e
   gives : So (inputs (patternAt d p)) → So (irfAt d p) → after d e ≡ relined (givenAt d p) → readBy p d e ≡ transferAt d p .front ∷ [] → Turn p d e
 
 -- ---- refused, or no write and no read
 module _ (p : ℕ) (d : Device) (e : Event) where
-  pub unwritten : isW e ≡ false → writtenBy p d e ≡ []
-  unfolding writtenBy
+  pub unwritten : isW e ≡ false → dataWrittenBy p d e ≡ []
+  unfolding dataWrittenBy
   unwritten z = simp z
 
   pub unread : isR e ≡ false → readBy p d e ≡ []
@@ -60,11 +60,11 @@ module _ (p : ℕ) (d : Device) (e : Event) where
   pub neither : isW e ≡ false → isR e ≡ false → Quiet p d e
   neither w r = record { written = λ _. unwritten w; read = λ _. unread r }
 
-  unaccepted : accepted d e ≡ false → Quiet p d e
-  unfolding writtenBy readBy
+  unaccepted : isAccepted d e ≡ false → Quiet p d e
+  unfolding dataWrittenBy readBy
   unaccepted z = record { written = λ _. simp (z, and-false); read = λ _. simp (z, and-false) }
 
-  pub refused : accepted d e ≡ false → Turn p d e
+  pub refused : isAccepted d e ≡ false → Turn p d e
   refused z =
       let same : after d e ≡ d = refused-keeps d e (eqb-false (eventOf d e .answer .code) 0 z) in
       rests (subst (λ (f : Device). Alike d f) (sym same) (alike-refl d)) (ap (λ (f : Device). transferAt f p) same) (unaccepted z)
@@ -91,7 +91,7 @@ pub awake : (p : ℕ) → p < 2 → (d : Device) → Standing p d → reset d �
 awake p l d h = handshake-awake d p l (sound-parts d (h .sound) .base) (h .shaken)
 
 -- ---- accepted
-module _ (p : ℕ) (d : Device) (e : Event) (taken : accepted d e ≡ true) where
+module _ (p : ℕ) (d : Device) (e : Event) (taken : isAccepted d e ≡ true) where
   pub code : codeOf d e ≡ 0
   code = sym (code-is d e) ∙ eqb-true (eventOf d e .answer .code) 0 taken
 

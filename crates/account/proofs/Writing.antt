@@ -23,13 +23,13 @@ use Rattle.rules.specs.Events.{effectOf}
 use Rattle.basics.proofs.Tests.{so-both, left, right, each, not-so}
 use Rattle.theorems.proofs.Refusals.{code-0, code-10}
 use Rattle.theorems.proofs.Shapes.{written-shaped}
-use Rattle.account.specs.Account.{after, accepted, writtenBy, ends}
+use Rattle.account.specs.Account.{after, isAccepted, dataWrittenBy, endsAccount}
 use Rattle.account.proofs.Kept.{Around}
 use Rattle.account.proofs.Written.{agree, written-kept}
 use Rattle.account.proofs.Turns.{either, Standing, Turn, steps, stores, awake}
 use Rattle.account.proofs.Turns.{code, unread, around-by, data-kind, data-within, data-port}
 
-module _ (p : ℕ) (l : p < 2) (d : Device) (h : Standing p d) (e : Event) (taken : accepted d e ≡ true) (w : So (isW e)) where
+module _ (p : ℕ) (l : p < 2) (d : Device) (h : Standing p d) (e : Event) (taken : isAccepted d e ≡ true) (w : So (isW e)) where
   abbrev q : Pattern
   q = patternAt d p
 
@@ -74,16 +74,16 @@ module _ (p : ℕ) (l : p < 2) (d : Device) (h : Standing p d) (e : Event) (take
         either (oreAt d p) (λ r. r)
         (λ z. absurd (omega (arith, code p d e taken, code-10 d e .1 (so-both (so-both (h .sound) unlarge) (full z)))))
 
-    writes : writtenBy p d e ≡ e .b ∷ []
-    unfolding writtenBy
+    writes : dataWrittenBy p d e ≡ e .b ∷ []
+    unfolding dataWrittenBy
     writes = simp (w, eq-eqb (e .a) (0x0D + p) data-place, taken)
 
     stored-turn : Turn p d e
     stored-turn = stores output-port room small (subst (λ (f : Device). Around p d f (after d e)) stored around) writes
 
   -- to anything else, but what a port does not stand: it is kept
-  other-turn : ends p d e ≡ false → (e .a == 0x0D + p && outputs q) ≡ false → Turn p d e
-  unfolding ends writtenBy
+  other-turn : endsAccount p d e ≡ false → (e .a == 0x0D + p && outputs q) ≡ false → Turn p d e
+  unfolding endsAccount dataWrittenBy
   other-turn stays z =
       let undropped = simp (taken, is-one) at stays in
       steps (writtenOf d kind (e .b))
@@ -93,5 +93,5 @@ module _ (p : ℕ) (l : p < 2) (d : Device) (h : Standing p d) (e : Event) (take
         read = λ _. unread p d e (simp is-one);
       })
 
-  pub write-turn : ends p d e ≡ false → Turn p d e
+  pub write-turn : endsAccount p d e ≡ false → Turn p d e
   write-turn stays = either (e .a == 0x0D + p && outputs q) stored-turn (other-turn stays)

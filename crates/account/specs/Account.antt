@@ -39,29 +39,29 @@ acknowledges d e p = heeded d p && heeded e p && rises (bit (pathAt e 2) (ackinB
 abbrev pub after : Device → Event → Device
 after d e = eventOf d e .device
 
-abbrev pub accepted : Device → Event → Bool
-accepted d e = eventOf d e .answer .code == 0
+abbrev pub isAccepted : Device → Event → Bool
+isAccepted d e = eventOf d e .answer .code == 0
 
 -- the byte, if the test passes
-abbrev pub entry : Bool → ℕ → List ℕ
-entry v b = if v then b ∷ [] else []
+abbrev pub byteIf : Bool → ℕ → List ℕ
+byteIf v b = if v then b ∷ [] else []
 
 -- "the bytes written with code 0"
-unfoldable pub writtenBy : ℕ → Device → Event → List ℕ
-writtenBy p d e = entry (isW e && e .a == 0x0D + p && accepted d e) (e .b)
+unfoldable pub dataWrittenBy : ℕ → Device → Event → List ℕ
+dataWrittenBy p d e = byteIf (isW e && e .a == 0x0D + p && isAccepted d e) (e .b)
 
 -- "the bytes acknowledged outside": ACKIN falls while DAV, which is low active, is shown. The byte is the one that R of the data returns
 -- before the event.
 unfoldable pub acknowledgedBy : ℕ → Device → Event → List ℕ
-acknowledgedBy p d e = entry (not (lineAt d p) && acknowledges d (after d e) p) (readOf d (Data p))
+acknowledgedBy p d e = byteIf (not (lineAt d p) && acknowledges d (after d e) p) (readOf d (Data p))
 
 -- "those strobed in while ready was shown": pin XOR polarity after the event
 unfoldable pub strobedBy : ℕ → Device → Event → List ℕ
-strobedBy p d e = entry (lineAt d p && acknowledges d (after d e) p) (levelOf (portAt (after d e) p) (pinsAt (after d e) p))
+strobedBy p d e = byteIf (lineAt d p && acknowledges d (after d e) p) (levelOf (portAt (after d e) p) (pinsAt (after d e) p))
 
 -- "the bytes read with code 0"
 unfoldable pub readBy : ℕ → Device → Event → List ℕ
-readBy p d e = entry (isR e && e .a == 0x0D + p && accepted d e) (eventOf d e .answer .value)
+readBy p d e = byteIf (isR e && e .a == 0x0D + p && isAccepted d e) (eventOf d e .answer .value)
 
 -- "those still held", the front byte first
 unfoldable pub heldOf : Device → ℕ → List ℕ
@@ -83,20 +83,20 @@ overCut g f d l [] = over f d l
 overCut g f d l (m ∷ ms) = over f d l ++ overCut g f (g (recordAfter d l)) m ms
 
 -- "While a port .. isn't reset, disabled or set up again": the events that do so
-unfoldable pub ends : ℕ → Device → Event → Bool
-ends p d e =
-    accepted d e
+unfoldable pub endsAccount : ℕ → Device → Event → Bool
+endsAccount p d e =
+    isAccepted d e
     && (isX e
     || (isW e
     && ((e .a == 0x00 && bit (e .b) 0) || (e .a == 0x01 && not (portOn (e .b) p)) || e .a == 0x20 + 8 * p || e .a == 0x21 + 8 * p)))
 
-unfoldable pub stands : ℕ → Device → List Event → Bool
-stands p d [] = true
-stands p d (e ∷ l) = not (ends p d e) && stands p (after d e) l
+unfoldable pub accountStands : ℕ → Device → List Event → Bool
+accountStands p d [] = true
+accountStands p d (e ∷ l) = not (endsAccount p d e) && accountStands p (after d e) l
 
 -- ---- the two accounts of the events l from the record d
 abbrev pub OutputAccount : ℕ → Device → List Event → Type 0
-OutputAccount p d l = heldOf d p ++ over (writtenBy p) d l ≡ over (acknowledgedBy p) d l ++ heldOf (recordAfter d l) p
+OutputAccount p d l = heldOf d p ++ over (dataWrittenBy p) d l ≡ over (acknowledgedBy p) d l ++ heldOf (recordAfter d l) p
 
 abbrev pub InputAccount : ℕ → Device → List Event → Type 0
 InputAccount p d l = heldOf d p ++ over (strobedBy p) d l ≡ over (readBy p) d l ++ heldOf (recordAfter d l) p
@@ -109,10 +109,10 @@ unfoldable pub linePin : Device → ℕ → Bool
 linePin d p = bit (levelOf (portAt d 2) (pinsAt d 2)) (lineBit p)
 
 unfoldable pub acknowledgedAtPins : ℕ → Device → Event → List ℕ
-acknowledgedAtPins p d e = entry (not (linePin d p) && acknowledges d (after d e) p) (levelOf (portAt d p) (pinsAt d p))
+acknowledgedAtPins p d e = byteIf (not (linePin d p) && acknowledges d (after d e) p) (levelOf (portAt d p) (pinsAt d p))
 
 unfoldable pub strobedAtPins : ℕ → Device → Event → List ℕ
-strobedAtPins p d e = entry (linePin d p && acknowledges d (after d e) p) (levelOf (portAt (after d e) p) (pinsAt (after d e) p))
+strobedAtPins p d e = byteIf (linePin d p && acknowledges d (after d e) p) (levelOf (portAt (after d e) p) (pinsAt (after d e) p))
 
 -- at every record that the events start from
 abbrev pub Throughout : (Device → Type 0) → Device → List Event → Type 0

@@ -5,8 +5,9 @@ pub mod Truth
 pub mod Lists
 pub mod Places
 pub mod Tabled
--- a function again and again
+-- a function again and again, and events one after the other
 pub mod Iterate
+pub mod Runs
 -- bits of a byte, and bytes in a buffer
 pub mod Laws
 pub mod Laying

@@ -1,2 +1,3 @@
-pub mod Moments
-pub mod Leaping
+pub mod Halves
+pub mod Reaches
+pub mod First

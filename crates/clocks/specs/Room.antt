@@ -1,6 +1,6 @@
--- What the numbers of a report leave room for. Each is at most the clocks so far, so `T n` always has the room that it needs.
+-- What the numbers of a report leave room for. Each is at most the timer clocks so far, so `T n` always has the room that it needs.
 -- Assumes nothing.
-use Prim.Native.Nat.{ℕ, _+_, _-_, _*_, _≤_, _<_}
+use Prim.Native.Nat.{ℕ, _+_, _≤_, _<_}
 use mathlib.Core.List.{List}
 use lib.ListN.{getD}
 use Rattle.rules.specs.declared.Report.{Report}
@@ -13,11 +13,10 @@ pub record Room (n : ℕ) (r : Report) : Type 0 where
   pub terminals : RoomIn n (r .terminals)
   pub lost : RoomIn n (r .lost)
 
--- q rounds more, each with what there was from `was` to `is`
-abbrev pub RepeatsIn : ℕ → List ℕ → List ℕ → Type 0
-RepeatsIn q was is =
-    (i : ℕ) → i < 3 → (getD was i 0 ≤ getD is i 0) × (getD is i 0 + q * (getD is i 0 - getD was i 0) ≤ 4294967295)
+-- another, number by number
+abbrev pub BothIn : List ℕ → List ℕ → Type 0
+BothIn ns ms = (i : ℕ) → getD ns i 0 + getD ms i 0 ≤ 4294967295
 
-pub record Repeats (q : ℕ) (was is : Report) : Type 0 where
-  pub terminals : RepeatsIn q (was .terminals) (is .terminals)
-  pub lost : RepeatsIn q (was .lost) (is .lost)
+pub record Both (r s : Report) : Type 0 where
+  pub terminals : BothIn (r .terminals) (s .terminals)
+  pub lost : BothIn (r .lost) (s .lost)

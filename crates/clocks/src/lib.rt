@@ -1,34 +1,158 @@
-// T n: clock by clock, but for the stretches in which clocks only take one from some counts, which are one leap; and when the
-// record comes back to what it was, all whole rounds at once.
+// T n: each part that goes alone by division; CT1, CT2 and Port B's side, where a link or a pattern ties them, by leaps and rounds.
 mod reports;
 
 ghost use mathlib.Core.Path.{_≡_};
 ghost use mathlib.Core.Bool.{true, false};
-ghost use Prim.Native.Nat.{_+_, _-_, _*_, _≤_, _<_};
-ghost use Rattle.rules.specs.Step.{clockOf, iterate, ranOf};
-ghost use Rattle.theorems.specs.Stretch.{lowerOf, loweredOf, movedOf};
+ghost use lib.Dec.{eqb};
+ghost use Prim.Native.Nat.{_+_, _/_, _%_, _<_};
+ghost use Rattle.basics.specs.Byte.{num};
+ghost use Rattle.rules.specs.Record.{counterAt};
+ghost use Rattle.rules.specs.Registers.{reset};
+ghost use Rattle.rules.specs.Report.{noReport};
+ghost use Rattle.rules.specs.Step.{clockOf, ranOf};
+ghost use Rattle.theorems.specs.Moving.{Caught, comesTo, partAfter, sideAt, sideAfter, apart, runWith};
 ghost use Rattle.clocks.specs.Room.{Room};
-ghost use Rattle.clocks.specs.Chase.{Timer, Moving, Leaps, Holds, Follows};
 use rules::Counter;
 use rules::Device;
+use rules::Pattern;
 use rules::Ran;
 use rules::Report;
+use rules::Source;
+use theorems::Part;
+use theorems::Side;
 
-// Some clocks of a run at once.
-pub struct Leap {
-    pub ran: Ran,
-    pub clocks: u32,
+// The timer clocks of n clocks, and the phase after them.
+fn timer_clocks(n: u32, phase: bool) -> u32
+    ensures { λ r. ⌜ r ≡ (n + num phase) / 2 ⌝ }
+{
+    if phase {
+        return n / 2 + n % 2;
+    }
+    n / 2
 }
 
-// A run in search of its rounds: the present, an earlier moment (the anchor), the clocks and the leaps since, after how many
-// leaps the anchor is renewed, and the clocks that are left.
-pub struct Chase {
-    pub ran: Ran,
-    pub anchor: Ran,
-    pub since: u32,
-    pub leaps: u32,
-    pub span: u32,
-    pub left: u32,
+fn phase_after(n: u32, phase: bool) -> bool
+    ensures { λ r. ⌜ r ≡ eqb ((n + num phase) % 2) 1 ⌝ }
+{
+    (n % 2 == 1) != phase
+}
+
+// Whether timer clocks come to counter i, where no link reaches it.
+fn comes(d: Device, i: usize) -> bool
+    requires { ⌜ i < 3 ⌝ }
+    ensures { λ r. ⌜ r ≡ comesTo d i ⌝ }
+{
+    let c = d.counters[i];
+    let count_input = c.mode / 32 % 2 == 1;
+    let gate_input = c.mode / 8 % 2 == 1;
+    let gate_line = step::lines_at(d, i) / 8 % 2 == 1;
+    levels::counter_on(d.config, i) & c.gcb & (!gate_input | gate_line) & !count_input
+}
+
+// Of 16 bits are its count and its constant.
+fn sized(c: Counter) -> Counter
+    ensures { λ r. ⌜ (r ≡ c) × (c .count < 65536) × (c .constant < 65536) ⌝ }
+{
+    c
+}
+
+fn counter_at(d: Device, i: usize) -> Counter
+    requires { ⌜ i < 3 ⌝ }
+    ensures { λ r. ⌜ (r ≡ counterAt d i) × (counterAt d i .count < 65536) × (counterAt d i .constant < 65536) ⌝ }
+{
+    let c = d.counters[i];
+    sized(c)
+}
+
+// Counter i, which is c, with its source after k timer clocks.
+fn part(d: Device, i: usize, c: Counter, k: u32) -> Part
+    requires { ⌜ (i < 3) × (c ≡ counterAt d i) ⌝ }
+    ensures { λ r. ⌜ r ≡ partAfter d i k ⌝ }
+{
+    let s = d.sources[Source::of_counter(i)];
+    alone::alone(d.version, comes(d, i), c, s, k)
+}
+
+// Port p's side after k timer clocks in which nothing that it sees changes.
+fn side(d: Device, p: usize, k: u32) -> Side
+    requires { ⌜ p < 2 ⌝ }
+    ensures { λ r. ⌜ r ≡ sideAfter d p k ⌝ }
+{
+    let q = d.patterns[p];
+    let s = d.sources[Source::of_port(p)];
+    if k == 0 {
+        return Side {
+            pmf: q.pmf,
+            source: s,
+        };
+    }
+    let seen = levels::seen_at(d, p);
+    let m = step::matches(levels::port_enabled(d, p), q, seen, seen);
+    Side {
+        pmf: m,
+        source: alone::matched(q, q.pmf, m, s),
+    }
+}
+
+// Whether no counter is linked, and no output is where Port B's pattern could see it.
+fn all_apart(d: Device) -> bool
+    ensures { λ r. ⌜ r ≡ apart d ⌝ }
+{
+    let q = d.patterns[1];
+    let pattern = q.mode / 2 % 4 != 0;
+    let one = d.counters[0].mode / 64 % 2 == 1;
+    let two = d.counters[1].mode / 64 % 2 == 1;
+    (d.config % 4 == 0) & (!pattern | !(one | two))
+}
+
+// The record with the parts and sides that n clocks leave, and their report.
+fn with(d: Device, n: u32, one: Part, two: Part, three: Part, a: Side, b: Side) -> Ran
+    ensures { λ r. ⌜ r ≡ runWith d n (record { one = one; two = two; three = three; a = a; b = b }) ⌝ }
+{
+    let c = one.counter;
+    let e = two.counter;
+    let f = three.counter;
+    let s = one.source;
+    let t = two.source;
+    let u = three.source;
+    let v = a.source;
+    let w = b.source;
+    let p = d.patterns[0];
+    let q = d.patterns[1];
+    let mut r = d;
+    r.patterns = [Pattern { pmf: a.pmf, ..p }, Pattern { pmf: b.pmf, ..q }];
+    r.counters = [c, e, f];
+    r.sources = [u, v, t, w, s];
+    r.phase = phase_after(n, d.phase);
+    Ran {
+        device: r,
+        report: Report {
+            terminals: [one.terminals, two.terminals, three.terminals],
+            lost: [one.lost, two.lost, three.lost],
+        },
+    }
+}
+
+// n clocks of a record whose catchers have caught.
+fn parts(n: u32, d: Device) -> Ran
+    requires { ⌜ Caught d × (reset d ≡ false) ⌝ }
+    ensures { λ r. ⌜ r ≡ ranOf n d ⌝ }
+{
+    let k = timer_clocks(n, d.phase);
+    let x = counter_at(d, 0);
+    let y = counter_at(d, 1);
+    let z = counter_at(d, 2);
+    let one = part(d, 0, x, k);
+    let three = part(d, 2, z, k);
+    let a = side(d, 0, k);
+    if all_apart(d) {
+        return with(d, n, one, part(d, 1, y, k), three, a, side(d, 1, k));
+    }
+    let pair = linked::linked(k, d);
+    let c = pair.two;
+    let b = pair.side;
+    let s = d.sources[Source::CT2];
+    with(d, n, one, alone::placed(c, s, pair.terminals), three, a, b)
 }
 
 // One PCLK clock, with the report so far.
@@ -53,213 +177,22 @@ fn clock(s: Ran) -> Ran
     }
 }
 
-// Whether a record has come back to what it was.
-fn came_back(now: Device, then: Device) -> bool
-    ensures { λ r. ⌜ (r ≡ true → now ≡ then) ⌝ }
+// n clocks of a record whose catchers have not caught, which no sound record is: of the first two one is a timer clock, and catches.
+fn catching(n: u32, start: Ran) -> Ran
+    requires { ⌜ (reset (start .device) ≡ false) × (start .report ≡ noReport) ⌝ }
+    ensures { λ r. ⌜ r ≡ ranOf n (start .device) ⌝ }
 {
-    record::same(now, then)
-}
-
-// Whether a counter has moved and may go on.
-fn moves(then: Counter, now: Counter) -> bool
-    ensures { λ r. ⌜ (r ≡ true → 3 ≤ then .count) ⌝ }
-{
-    (then.count != now.count) & (2 < then.count)
-}
-
-// A counter k counts later, if it moves.
-fn lower(k: u32, moves: bool, c: Counter) -> Counter
-    requires { ⌜ (moves ≡ true → k ≤ c .count) ⌝ }
-    ensures { λ r. ⌜ r ≡ lowerOf k moves c ⌝ }
-{
-    if moves {
-        let mut e = c;
-        e.count = ((c.count as u32) - k) as u16;
-        return e;
+    if n == 0 {
+        return start;
     }
-    c
-}
-
-// A record k counts later, where a, b, c tell which of the counters move.
-fn lowered(k: u32, a: bool, b: bool, c: bool, d: Device) -> Device
-    requires { ⌜ Moving k a b c d ⌝ }
-    ensures { λ r. ⌜ r ≡ loweredOf k a b c d ⌝ }
-{
-    let x = d.counters[0];
-    let y = d.counters[1];
-    let z = d.counters[2];
-    let mut e = d;
-    e.counters = [lower(k, a, x), lower(k, b, y), lower(k, c, z)];
-    e
-}
-
-fn least(k: u32, n: u32) -> u32
-    ensures { λ r. ⌜ (r ≤ k) × (r ≤ n) × (0 < k → 0 < n → 0 < r) ⌝ }
-{
-    if n < k {
-        return n;
+    let first = clock(start);
+    if n == 1 {
+        return first;
     }
-    k
-}
-
-// How many of k counts leave a counter that moves above 1.
-fn room(k: u32, moves: bool, c: Counter) -> u32
-    requires { ⌜ (moves ≡ true → 3 ≤ c .count) ⌝ }
-    ensures { λ r. ⌜ (r ≤ k) × (moves ≡ true → r + 2 ≤ c .count) × (0 < k → 0 < r) × (c .count < 65536) ⌝ }
-{
-    if moves {
-        return least(k, (c.count as u32) - 2);
-    }
-    k
-}
-
-// Whether nothing but the counts that move is another, each by one.
-fn only_moved(a: bool, b: bool, c: bool, then: Ran, now: Ran) -> bool
-    requires { ⌜ Moving 3 a b c (then .device) ⌝ }
-    ensures { λ r. ⌜ (r ≡ true → now ≡ movedOf 1 a b c then) ⌝ }
-{
-    if reports::same(now.report, then.report) {
-        return came_back(now.device, lowered(1, a, b, c, then.device));
-    }
-    false
-}
-
-// All clocks like the first two, of which the first is a timer clock.
-fn far(a: bool, b: bool, c: bool, s: Ran, left: u32) -> Leap
-    requires { ⌜ Timer s × (2 ≤ left) × Moving 3 a b c (s .device) × (iterate 2 clockOf s ≡ movedOf 1 a b c s) ⌝ }
-    ensures { λ r. ⌜ Leaps s left r ⌝ }
-{
-    let d = s.device;
-    let x = d.counters[0];
-    let y = d.counters[1];
-    let z = d.counters[2];
-    let r = s.report;
-    let k = room(room(room(left / 2, a, x), b, y), c, z);
-    Leap {
-        ran: Ran {
-            device: lowered(k, a, b, c, d),
-            report: r,
-        },
-        clocks: 2 * k,
-    }
-}
-
-// Two clocks, of which the first is a timer clock, or all clocks like them.
-fn stretched(s: Ran, two: Ran, left: u32) -> Leap
-    requires { ⌜ Timer s × (2 ≤ left) × (two ≡ iterate 2 clockOf s) ⌝ }
-    ensures { λ r. ⌜ Leaps s left r ⌝ }
-{
-    let d = s.device;
-    let e = two.device;
-    let a = moves(d.counters[0], e.counters[0]);
-    let b = moves(d.counters[1], e.counters[1]);
-    let c = moves(d.counters[2], e.counters[2]);
-    if only_moved(a, b, c, s, two) {
-        return far(a, b, c, s, left);
-    }
-    Leap {
-        ran: two,
-        clocks: 2,
-    }
-}
-
-// A leap of at most the clocks that are left.
-fn leapt(s: Ran, left: u32) -> Leap
-    requires { ⌜ (0 < left) × Room left (s .report) ⌝ }
-    ensures { λ r. ⌜ Leaps s left r ⌝ }
-{
-    let first = clock(s);
-    let d = s.device;
-    let timer = d.phase & !d.reset() & (1 < left);
-    if timer {
-        return stretched(s, clock(first), left);
-    }
-    Leap {
-        ran: first,
-        clocks: 1,
-    }
-}
-
-// One leap.
-fn advanced(c: Chase) -> Chase
-    requires { ⌜ Holds c × (0 < c .left) ⌝ }
-    ensures { λ r. ⌜ Follows c r × (r .left < c .left) × (0 < r .since) ⌝ }
-{
-    let now = c.ran;
-    let anchor = c.anchor;
-    let l = leapt(now, c.left);
-    let there = l.ran;
-    Chase {
-        ran: there,
-        anchor: anchor,
-        since: c.since + l.clocks,
-        leaps: c.leaps,
-        span: c.span,
-        left: c.left - l.clocks,
-    }
-}
-
-// The record has come back: all whole rounds that are left.
-fn skipped(c: Chase) -> Chase
-    requires { ⌜ Holds c × (0 < c .since) × (c .ran .device ≡ c .anchor .device) ⌝ }
-    ensures { λ r. ⌜ Follows c r ⌝ }
-{
-    let q = c.left / c.since;
-    let now = c.ran;
-    let then = c.anchor;
-    let d = now.device;
-    let sum = reports::after_rounds(q, then.report, now.report);
-    let there = Ran {
-        device: d,
-        report: sum,
-    };
-    Chase {
-        ran: there,
-        anchor: there,
-        since: 0,
-        leaps: 0,
-        span: c.span,
-        left: c.left % c.since,
-    }
-}
-
-fn doubled(n: u32) -> u32 {
-    if n < 2147483648 { 2 * n } else { n }
-}
-
-// The present is the anchor, for twice as many leaps.
-fn renewed(c: Chase) -> Chase
-    requires { ⌜ Holds c ⌝ }
-    ensures { λ r. ⌜ Follows c r ⌝ }
-{
-    let now = c.ran;
-    Chase {
-        ran: now,
-        anchor: now,
-        since: 0,
-        leaps: 0,
-        span: doubled(c.span),
-        left: c.left,
-    }
-}
-
-// The rounds that are left, where the record has come back; else the same moment, perhaps as the anchor.
-fn turned(c: Chase) -> Chase
-    requires { ⌜ Holds c × (0 < c .since) ⌝ }
-    ensures { λ r. ⌜ Follows c r ⌝ }
-{
-    let now = c.ran;
-    let then = c.anchor;
-    if came_back(now.device, then.device) {
-        return skipped(c);
-    }
-    if c.leaps < c.span {
-        return Chase {
-            leaps: c.leaps + 1,
-            ..c
-        };
-    }
-    renewed(c)
+    let second = clock(first);
+    let d = second.device;
+    let r = second.report;
+    reports::on_top(r, parts(n - 2, d))
 }
 
 // n PCLK clocks.
@@ -273,16 +206,11 @@ pub fn run(n: u32, d: Device) -> Ran
             lost: [0; 3],
         },
     };
-    let mut c = Chase {
-        ran: start,
-        anchor: start,
-        since: 0,
-        leaps: 0,
-        span: 1,
-        left: n,
-    };
-    while 0 < c.left {
-        c = turned(advanced(c));
+    if d.reset() {
+        return start;
     }
-    c.ran
+    if record::same(step::catch_all(d), d) {
+        return parts(n, d);
+    }
+    catching(n, start)
 }

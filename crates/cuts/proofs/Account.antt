@@ -16,7 +16,7 @@ use Rattle.rules.specs.Handshakes.{inputs, outputs}
 use Rattle.rules.specs.Interrupts.{relined}
 use Rattle.rules.specs.Sound.{soundOf}
 use Rattle.theorems.specs.Traces.{recordAfter, Traced, cutBy}
-use Rattle.account.specs.Account.{writtenBy, acknowledgedBy, strobedBy, readBy, heldOf, HoldsBytes, over, overCut, stands}
+use Rattle.account.specs.Account.{dataWrittenBy, acknowledgedBy, strobedBy, readBy, heldOf, HoldsBytes, over, overCut, accountStands}
 use Rattle.account.specs.Account.{OutputAccount, InputAccount}
 use Rattle.account.proofs.Cut.{over-unseen}
 use Rattle.account.proofs.Every.{output, input}
@@ -32,7 +32,7 @@ use Rattle.cuts.proofs.Night.{night-keeps, night-unseen}
 
 -- ---- any events, cut anywhere, with a night at each cut
 module _ (buffer : List ℕ) (roomy : Roomy buffer) (p : ℕ) (two : p < 2) (d : Device) (h : Shaped d) (s : soundOf d ≡ true)
-    (on : portEnabled d p ≡ true) (l : List Event) (ls : List (List Event)) (st : stands p d (flatten (l ∷ ls)) ≡ true) where
+    (on : portEnabled d p ≡ true) (l : List Event) (ls : List (List Event)) (st : accountStands p d (flatten (l ∷ ls)) ≡ true) where
   over-nights : (f : Device → Event → List ℕ) → overCut (nightOf buffer) f d l ls ≡ over f d (flatten (l ∷ ls))
   over-nights f = over-unseen f (nightOf buffer) (night-keeps buffer roomy) d l ls h s
 
@@ -46,9 +46,9 @@ module _ (buffer : List ℕ) (roomy : Roomy buffer) (p : ℕ) (two : p < 2) (d :
   nights f g e = ap (λ (m : List ℕ). heldOf d p ++ m) (over-nights f) ∙ e ∙ ap₂ _++_ (sym (over-nights g)) (sym held-after)
 
   pub output-over-nights : outputs (patternAt d p) ≡ true → HoldsBytes p d
-      → heldOf d p ++ overCut (nightOf buffer) (writtenBy p) d l ls
+      → heldOf d p ++ overCut (nightOf buffer) (dataWrittenBy p) d l ls
       ≡ overCut (nightOf buffer) (acknowledgedBy p) d l ls ++ heldOf (cutBy (nightOf buffer) d l ls .device) p
-  output-over-nights o b = nights (writtenBy p) (acknowledgedBy p) (output p two d h s on (flatten (l ∷ ls)) st o b)
+  output-over-nights o b = nights (dataWrittenBy p) (acknowledgedBy p) (output p two d h s on (flatten (l ∷ ls)) st o b)
 
   pub input-over-nights : inputs (patternAt d p) ≡ true
       → heldOf d p ++ overCut (nightOf buffer) (strobedBy p) d l ls
@@ -81,7 +81,7 @@ module _ (s : List ℕ) (taken : restoredOf s .code ≡ 0) (p : ℕ) (two : p < 
   image-bytes : Bytes s → HoldsBytes p d
   image-bytes b = subst (HoldsBytes p) (sym (accepted s taken .is)) (told-bytes (layoutIn s) s p two b)
 
-  module _ (on : portEnabled d p ≡ true) (l : List Event) (st : stands p d l ≡ true) where
+  module _ (on : portEnabled d p ≡ true) (l : List Event) (st : accountStands p d l ≡ true) where
     pub output-from-image : Bytes s → outputs (patternAt d p) ≡ true → OutputAccount p d l
     output-from-image b o = output p two d (accepted-shaped s taken) (accepted-sound s taken) on l st o (image-bytes b)
 

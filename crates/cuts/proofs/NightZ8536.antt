@@ -11,9 +11,9 @@ use Rattle.rules.specs.Events.{isT}
 use Rattle.theorems.specs.Ticks.{onlyT, allClocks}
 use Rattle.z8536.specs.declared.Z8536.{Z8536}
 use Rattle.z8536.specs.Z8536.{soundZ8536, eventZ8536}
-use Rattle.z8536.specs.Runs.{runZ8536, cutZ8536}
+use Rattle.z8536.specs.Runs.{runZ8536, cutZ8536, oneOf}
 use Rattle.z8536.proofs.Runs.{unseen}
-use Rattle.z8536.proofs.Demand3.{oneOf, cut-apart}
+use Rattle.z8536.proofs.Demand3.{cut-apart}
 use Rattle.image.specs.declared.RestoredZ8536.{RestoredZ8536}
 use Rattle.image.proofs.PointedTrip.{restored-saved}
 use Rattle.cuts.specs.Nights.{nightZ8536}

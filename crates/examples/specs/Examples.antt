@@ -322,3 +322,50 @@ w206up =
 -- IP; with CT3's bits cleared CT1 requests again.
 abbrev pub w208 : List ℕ
 w208 = 0 ∷ 0 ∷ 0 ∷ 5 ∷ 1 ∷ 0 ∷ 0 ∷ 0 ∷ 5 ∷ 5 ∷ []
+
+-- Paper 02, W-211: "IP is set while any match stands, at every step, and a clear command is followed by IP = 1 as long as it does": command 1
+-- also clears IUS, so INT is 1 again at once.
+abbrev pub w211 : List Line
+w211 =
+    accepted (W 0x00 0x80)
+    ∷ accepted (W 0x01 0x04)
+    ∷ accepted (W 0x08 0xC0)
+    ∷ accepted (W 0x27 0x01)
+    ∷ line (W 0x20 0x06) (says 0 0x00 0x00 0x00 0x0 1 1 0 0 0 0 0 0)
+    ∷ line K (says 0 0x00 0x00 0x00 0x0 0 0 0 0 0 0 0 0)
+    ∷ line (W 0x08 0x20) (says 0 0x00 0x00 0x00 0x0 1 1 0 0 0 0 0 0)
+    ∷ line (R 0x08) (says 0 0x62 0x00 0x00 0x0 1 1 0 0 0 0 0 0)
+    ∷ []
+
+-- "the port's status in D3-D1 is the number of the highest matching bit": bit 0, then bit 7, as the levels stand.
+abbrev pub w211number : List Line
+w211number =
+    accepted (W 0x00 0x90)
+    ∷ accepted (W 0x01 0x04)
+    ∷ accepted (W 0x23 0xFF)
+    ∷ accepted (W 0x25 0xFF)
+    ∷ accepted (W 0x27 0xFF)
+    ∷ accepted (W 0x08 0xC0)
+    ∷ accepted (W 0x20 0x06)
+    ∷ line (P 0x01 0x00 0x0) (says 0 0x00 0x01 0x00 0x0 1 1 0 0 0 0 0 0)
+    ∷ line K (says 0 0x00 0x01 0x00 0x0 0 0 0 0 0 0 0 0)
+    ∷ line (P 0x81 0x00 0x0) (says 0 0x00 0x81 0x00 0x0 0 0 0 0 0 0 0 0)
+    ∷ line (R 0x02) (says 0 0x0E 0x81 0x00 0x0 0 0 0 0 0 0 0 0)
+    ∷ []
+
+-- "4 is kept for this mode with any transition bit set, whichever of the two registers is written last."
+abbrev pub w211refused : List Line
+w211refused =
+    accepted (W 0x00 0x00)
+    ∷ accepted (W 0x20 0x06)
+    ∷ line (W 0x26 0x80) (says 4 0x00 0x00 0x00 0x0 0 1 0 0 0 0 0 0)
+    ∷ accepted (W 0x20 0x00)
+    ∷ accepted (W 0x26 0x80)
+    ∷ line (W 0x20 0x06) (says 4 0x00 0x00 0x00 0x0 0 1 0 0 0 0 0 0)
+    ∷ accepted (W 0x26 0x00)
+    ∷ accepted (W 0x20 0x3E)
+    ∷ []
+
+-- "Version 1 devices still refuse the mode."
+abbrev pub w211old : List Line
+w211old = accepted (W 0x00 0x00) ∷ line (W 0x20 0x06) (says 4 0x00 0x00 0x00 0x0 0 1 0 0 0 0 0 0) ∷ []

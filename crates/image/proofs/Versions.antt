@@ -1,45 +1,27 @@
 -- A sound record is of version 1 or 2, and of version 1 it has no port with handshake: so an image tells the whole of it.
 -- Assumes nothing.
-use Prim.Native.Nat.{ℕ, _<_, _/_, _%_}
-use mathlib.Core.Path.{_≡_, refl, ap, ap₂, subst, _∙_}
+use Prim.Native.Nat.{ℕ, _<_}
+use mathlib.Core.Path.{_≡_, refl, ap, ap₂, _∙_}
 use mathlib.Core.Bool.{Bool, true, false, not, _&&_, _||_, So}
 use mathlib.Core.List.{[], _∷_}
 use mathlib.Core.Logic.{inl, inr}
-use native.Mathlib.Omega.{arith}
-use borrow.Author.Tests.{eqb-true, ne-eqb, ltb-false}
-use lib.Dec.{eqb, ltb, lit<}
-use Rattle.basics.specs.Byte.{bit}
+use borrow.Author.Tests.{eqb-true}
+use lib.Dec.{eqb, lit<}
 use Rattle.rules.specs.declared.Device.{Device}
-use Rattle.rules.specs.declared.Pattern.{Pattern}
 use Rattle.rules.specs.declared.Transfer.{Transfer}
-use Rattle.rules.specs.Record.{Shaped, vacant, patternAt, transferAt}
-use Rattle.rules.specs.Registers.{portEnabled, laterPortMode, laterHandshake}
-use Rattle.rules.specs.Handshakes.{handshakes}
-use Rattle.rules.specs.Sound.{laterPort, soundOf}
+use Rattle.rules.specs.Record.{Shaped, vacant, transferAt}
+use Rattle.rules.specs.Registers.{portEnabled}
+use Rattle.rules.specs.Sound.{soundOf}
 use Rattle.basics.proofs.Tests.{never}
 use Rattle.basics.proofs.Lists.{two}
 use Rattle.theorems.proofs.Clauses.{sound-parts}
+use Rattle.theorems.proofs.Versions.{no-handshake}
 use Rattle.bodies.proofs.Whole.{Versioned}
-
--- of version 1 every mode but D7-D6 = 00 is refused, or unsound
-old-mode : (q : Pattern) → laterPort 1 q ≡ false → handshakes q ≡ false
-unfolding laterPortMode
-old-mode q e =
-    let m = q .mode in
-    let low = ltb-false 0 (m / 64) (first (ltb 0 (m / 64)) (eqb (m / 2 % 4) 3) (bit m 0) (laterHandshake m (q .handshake)) e) in
-    ap₂ _||_ (ne-eqb (m / 64) 1 (λ o. omega arith)) (ne-eqb (m / 64) 2 (λ o. omega arith))
-  where
-    first : (a b c g : Bool) → (a || b || c || g) ≡ false → a ≡ false
-    first true b c g e = e
-    first false b c g e = refl
 
 module _ (d : Device) (f : Shaped d) (s : soundOf d ≡ true) where
   -- so nothing is held there
   empty : d .version ≡ 1 → (p : ℕ) → p < 2 → transferAt d p ≡ vacant
-  empty e p l =
-      let parts = sound-parts d s .base in
-      let later = subst (λ (n : ℕ). laterPort n (patternAt d p) ≡ false) e (parts .modes p l) in
-      parts .transfers p l .held (ap (λ (t : Bool). not (t && portEnabled d p)) (old-mode (patternAt d p) later))
+  empty e p l = sound-parts d s .base .transfers p l .held (ap (λ (t : Bool). not (t && portEnabled d p)) (no-handshake d p l s e))
 
   pub sound-versioned : Versioned d
   sound-versioned = by-version (eqb (d .version) 1) (eqb (d .version) 2) refl refl (sound-parts d s .base .version)

@@ -3,7 +3,7 @@ ghost use mathlib.Core.Path.{_≡_};
 ghost use Prim.Native.Nat.{_<_};
 ghost use Rattle.rules.specs.Record.{vectorAt, patternAt};
 ghost use Rattle.rules.specs.Handshakes.{irfAt, oreAt};
-ghost use Rattle.rules.specs.Interrupts.{vectorOf, counterStatus, portStatus, withStatus, vectorFor};
+ghost use Rattle.rules.specs.Interrupts.{vectorOf, counterStatus, portStatus, priorityStatus, highestAt, portVector, withStatus, vectorFor};
 use crate::order;
 use rules::Device;
 use rules::Source;
@@ -66,11 +66,31 @@ fn ore_at(d: Device, p: usize) -> bool
     ports::ore(d.patterns[p], d.transfers[p])
 }
 
+fn highest_at(d: Device, p: usize) -> u8
+    requires { ⌜ p < 2 ⌝ }
+    ensures { λ r. ⌜ r ≡ highestAt d p ⌝ }
+{
+    let q = d.patterns[p];
+    ports::highest(levels::port_enabled(d, p), q, levels::seen_at(d, p))
+}
+
+// A port's vector with the number of its highest matching bit.
+fn priority_vector(base: u8, n: u8) -> u8
+    requires { ⌜ n < 8 ⌝ }
+    ensures { λ r. ⌜ r ≡ priorityStatus base n ⌝ }
+{
+    base / 16 * 16 + 2 * n + base % 2
+}
+
 // The vector of port p with status.
 fn port_status(d: Device, p: usize, base: u8, err: bool) -> u8
     requires { ⌜ p < 2 ⌝ }
-    ensures { λ r. ⌜ r ≡ portStatus base (oreAt d p) (irfAt d p) (patternAt d p .pmf) err ⌝ }
+    ensures { λ r. ⌜ r ≡ portVector d p base err ⌝ }
 {
+    let priority = d.patterns[p].mode / 2 % 4 == 3;
+    if priority {
+        return priority_vector(base, highest_at(d, p));
+    }
     port_vector(base, ore_at(d, p), irf_at(d, p), d.patterns[p].pmf, err)
 }
 

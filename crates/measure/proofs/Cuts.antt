@@ -7,6 +7,7 @@ use mathlib.Core.List.{List, [], _∷_}
 use native.Mathlib.Omega.{arith}
 use lib.ListN.{replicate}
 use borrow.Author.Tests.{le-ltb}
+use Rattle.basics.specs.Runs.{recordThrough}
 use Rattle.basics.proofs.Tests.{left, right, so-not}
 use Rattle.rules.specs.declared.Device.{Device}
 use Rattle.rules.specs.declared.Event.{Event}
@@ -58,7 +59,7 @@ blind m d n =
 
 all-sound : (m : Measure) (d : Device) (l : List Event) → So (onlyT l) → soundOf d ≡ true → m .clocks + allClocks l ≤ mostClocks
     → after m d l ≡ bothAfter (allClocks l) m d
-unfolding onlyT allClocks ticked
+unfolding onlyT allClocks ticked recordThrough
 all-sound m d [] h s c = ap (λ (e : Device). (m, e)) (sym (ap (λ (r : Ran). relined (r .device)) (ran-none d) ∙ sound-relined d s))
 all-sound m d (f ∷ l) h s c =
     let r = measuredOf m d f in
@@ -72,7 +73,7 @@ all-sound m d (f ∷ l) h s c =
     ∙ ap₂ (λ (m : Measure) (d : Device). (m, d)) (sym (ticked-cut d m n (allClocks l))) (ap relined (sym (cut-device d n (allClocks l))))
 
 all-unsound : (m : Measure) (d : Device) (l : List Event) → So (onlyT l) → soundOf d ≡ false → after m d l ≡ (m, d)
-unfolding onlyT
+unfolding onlyT recordThrough
 all-unsound m d [] h s = refl
 all-unsound m d (f ∷ l) h s =
     ap (λ (p : Measure × Device). after (p .0) (p .1) l) (tick-none m d f (left (isT f) (onlyT l) h) s)

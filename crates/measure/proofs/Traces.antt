@@ -7,6 +7,7 @@ use mathlib.Core.List.{List, [], _∷_}
 use native.Mathlib.Nat.{add-zero}
 use native.Mathlib.Omega.{arith}
 use lib.ListN.{length}
+use Rattle.basics.specs.Runs.{recordThrough}
 use Rattle.rules.specs.declared.Device.{Device}
 use Rattle.rules.specs.declared.Event.{Event}
 use Rattle.rules.specs.Record.{sourceAt}
@@ -18,13 +19,16 @@ use Rattle.measure.specs.Kept.{lasted, Kept}
 use Rattle.measure.proofs.WaitLaws.{count-exact, sum-exact}
 use Rattle.measure.proofs.Kept.{start-kept, measured-kept}
 
--- the measure and the record after events, one after another
+-- the measure and the record after an event, and after events, one after another
+abbrev pub next : Measure × Device → Event → Measure × Device
+next p e = (measuredOf (p .0) (p .1) e .measure, measuredOf (p .0) (p .1) e .device)
+
 abbrev pub after : Measure → Device → List Event → Measure × Device
-after m d [] = (m, d)
-after m d (e ∷ es) = after (measuredOf m d e .measure) (measuredOf m d e .device) es
+after m d = recordThrough next (m, d)
 
 kept-on : (n : ℕ) (m : Measure) (d : Device) (es : List Event) → n + length es < 2 ^ 64 → Kept n m d
     → Kept (n + length es) (after m d es .0) (after m d es .1)
+unfolding recordThrough
 kept-on n m d [] f h = subst (λ (i : ℕ). Kept i m d) (sym (add-zero n)) h
 kept-on n m d (e ∷ es) f h =
     let r = measuredOf m d e in

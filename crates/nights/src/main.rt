@@ -1,6 +1,6 @@
 // Nights and devices in words, one after the other: what `show` prints of four images, a night with one argument, a night
 // refused in each way, a night cut in three, a night between two long runs, one of a version 1 device, one with a
-// handshake, and one of a Z8536.
+// handshake, one of a Z8536, and one between long runs by division, and by leaps and rounds.
 use chip::Chip;
 use libc::STDIN_FILENO;
 use libc::STDOUT_FILENO;
@@ -108,6 +108,18 @@ fn of_z8536() {
     print_same(b"pointed", b"straight");
 }
 
+// A night in T 3000000000: of counters that all go alone, and of two that a link and a pattern tie.
+fn in_long_runs() {
+    night(b"-", b"alone", b"plain/evening");
+    night(b"alone", b"alone", b"plain/morning");
+    night(b"-", b"alone_uncut", b"plain/whole");
+    print_same(b"alone", b"alone_uncut");
+    night(b"-", b"tied_up", b"tied/evening");
+    night(b"tied_up", b"tied_up", b"tied/morning");
+    night(b"-", b"tied_uncut", b"tied/whole");
+    print_same(b"tied_up", b"tied_uncut");
+}
+
 fn main() {
     shown();
     image_files::night_arguments(STDIN_FILENO, STDOUT_FILENO, STDOUT_FILENO);
@@ -117,4 +129,5 @@ fn main() {
     of_old();
     with_handshake();
     of_z8536();
+    in_long_runs();
 }

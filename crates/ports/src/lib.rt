@@ -1,8 +1,8 @@
 // What several crates ask of one port or its pattern, by masks over the whole byte. The laws of all such masks are in proofs/.
 ghost use mathlib.Core.Path.{_≡_};
-ghost use Rattle.basics.specs.Byte.{byteOf};
+ghost use Rattle.basics.specs.Byte.{bit, byteOf};
 ghost use Rattle.rules.specs.PortData.{catchesAt};
-ghost use Rattle.rules.specs.Patterns.{onAt};
+ghost use Rattle.rules.specs.Patterns.{onAt, hitAt, highestOf, highestMatch};
 ghost use Rattle.rules.specs.Handshakes.{inputs, outputs, handshakes, depth, irfOf, oreOf, readyOf, availableOf};
 use rules::Pattern;
 use rules::Port;
@@ -27,6 +27,50 @@ pub fn on(p: Pattern) -> u8
     ensures { λ r. ⌜ r ≡ byteOf (onAt p) ⌝ }
 {
     p.mask | p.transition
+}
+
+// The bits whose condition holds.
+pub fn hits(p: Pattern, before: u8, after: u8) -> u8
+    ensures { λ r. ⌜ r ≡ byteOf (hitAt p before after) ⌝ }
+{
+    let level = (after ^ p.polarity) ^ 255;
+    let edges = (before ^ after) & p.transition;
+    (level & p.mask & (p.transition ^ 255)) | (edges & (p.mask ^ 255)) | (edges & p.mask & level)
+}
+
+// The number of the highest bit that is 1, or 0.
+fn highest_bit(b: u8) -> u8
+    ensures { λ r. ⌜ r ≡ highestOf (bit b) ⌝ }
+{
+    if b / 128 % 2 == 1 {
+        return 7;
+    }
+    if b / 64 % 2 == 1 {
+        return 6;
+    }
+    if b / 32 % 2 == 1 {
+        return 5;
+    }
+    if b / 16 % 2 == 1 {
+        return 4;
+    }
+    if b / 8 % 2 == 1 {
+        return 3;
+    }
+    if b / 4 % 2 == 1 {
+        return 2;
+    }
+    if b / 2 % 2 == 1 {
+        return 1;
+    }
+    0
+}
+
+// The number of the highest bit that matches, or 0.
+pub fn highest(enabled: bool, p: Pattern, seen: u8) -> u8
+    ensures { λ r. ⌜ r ≡ highestMatch enabled p seen ⌝ }
+{
+    highest_bit(spread(enabled) & hits(p, seen, seen))
 }
 
 // Whether a port is an input port with handshake, an output port, or one of the two.

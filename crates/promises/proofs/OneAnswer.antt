@@ -10,6 +10,7 @@ use mathlib.Core.List.{List}
 use mathlib.Core.Path.{refl}
 use Rattle.basics.specs.Buffer.{fits, laidOf}
 use Rattle.basics.specs.Byte.{byteIn, byteOf, withByte}
+use Rattle.basics.specs.Iterate.{iterate}
 use Rattle.bodies.specs.Taken.{statesAgree, recordIn, unusedClear}
 use Rattle.bodies.specs.Written.{bodiesOf}
 use Rattle.chip.specs.Chips.{coreOf, eventChip, ofZ8036, ofZ8536}
@@ -23,19 +24,21 @@ use Rattle.measure.specs.Measure.{measureStart, measuredOf, tableOf}
 use Rattle.phrases.specs.Refusals.{refusal, trouble}
 use Rattle.registers.specs.Place.{place}
 use Rattle.rules.specs.Access.{afterRead, readOf, writtenOf}
-use Rattle.rules.specs.Counters.{commandedBy, outputOf, reachOf, turnOf}
+use Rattle.rules.specs.Counters.{commandedBy, linkOf, outputOf, reachOf, turnOf}
 use Rattle.rules.specs.Events.{codeOf, eventOf}
 use Rattle.rules.specs.Handshakes.{ackinAt, availableOf, depth, handshakes, inputs, irfOf, offersAt, oreOf, outputs, readyOf}
 use Rattle.rules.specs.Interrupts.{acknowledge, acknowledged, currentVector, fateOf, linesOf, relined, requester, vectorRead}
 use Rattle.rules.specs.Moves.{givenAt, movesOf, storedAt}
-use Rattle.rules.specs.Patterns.{onAt}
+use Rattle.rules.specs.Patterns.{onAt, hitAt, matchOf, eventBy, hidesBy, highestMatch}
 use Rattle.rules.specs.PortData.{catchesAt, dataAt, directionAt, effectiveAt, pathAt, pinsAt, seenAt}
 use Rattle.rules.specs.Record.{freshOf, imageLen, ofCounter, ofPort, patternAt, registerCount, resetOf}
 use Rattle.rules.specs.Registers.{commanded, counterCommandOf, counterOn, kindOf, portCommandOf, portEnabled, portOn, reset}
-use Rattle.rules.specs.Sound.{sameOf, soundOf}
-use Rattle.rules.specs.Step.{ranOf, stepOf}
+use Rattle.rules.specs.Sound.{sameCounter, sameOf, sameSource, soundOf}
+use Rattle.rules.specs.Step.{catchers, linesAt, ranOf, stepOf}
 use Rattle.rules.specs.With.{device}
 use Rattle.session.specs.Sessions.{answered, answersIn, answersLast, bytesRead, fedBy, finishedBy, startOf}
+use Rattle.theorems.specs.Alone.{aloneAfter, placedBy, struckBy}
+use Rattle.theorems.specs.Moving.{pairOf, pairedBy}
 use Rattle.texts.specs.Answers.{answerText, decimalText, glyphOf}
 use Rattle.texts.specs.Kept.{bytesOf, noText, pushed, typed}
 use Rattle.words.specs.Shown.{pointerLine, shownLine}
@@ -80,7 +83,13 @@ use Rattle.refusals.proofs.code_of as refusals·code-of
 use Rattle.refusals.proofs.sound as refusals·sound
 use Rattle.record.proofs.reset as record·reset
 use Rattle.record.proofs.same as record·same
+use Rattle.record.proofs.same_counter as record·same-counter
+use Rattle.record.proofs.same_source as record·same-source
 use Rattle.clocks.proofs.run as clocks·run
+use Rattle.alone.proofs.alone as alone·alone
+use Rattle.alone.proofs.placed as alone·placed
+use Rattle.alone.proofs.matched as alone·matched
+use Rattle.linked.proofs.linked as linked·linked
 use Rattle.registers.proofs.kind_of as registers·kind-of
 use Rattle.words.proofs.line as words·line
 use Rattle.words.proofs.pointer_line as words·pointer-line
@@ -132,6 +141,8 @@ use Rattle.moves.proofs.stored as moves·stored
 use Rattle.ports.proofs.spread as ports·spread
 use Rattle.ports.proofs.places as ports·places
 use Rattle.ports.proofs.on as ports·on
+use Rattle.ports.proofs.hits as ports·hits
+use Rattle.ports.proofs.highest as ports·highest
 use Rattle.ports.proofs.inputs as ports·inputs
 use Rattle.ports.proofs.outputs as ports·outputs
 use Rattle.ports.proofs.handshakes as ports·handshakes
@@ -147,6 +158,10 @@ use Rattle.sources.proofs.port_command as sources·port-command
 use Rattle.sources.proofs.counter_command as sources·counter-command
 use Rattle.sources.proofs.fate as sources·fate
 use Rattle.step.proofs.step as step·step
+use Rattle.step.proofs.lines_at as step·lines-at
+use Rattle.step.proofs.link as step·link
+use Rattle.step.proofs.catch_all as step·catch-all
+use Rattle.step.proofs.matches as step·matches
 use Rattle.texts.proofs.glyph as texts·glyph
 use Rattle.texts.proofs.decimal as texts·decimal
 use Rattle.texts.proofs.answer_text as texts·answer-text
@@ -275,8 +290,28 @@ module _ {M : Type 1} (𝓤 : URA M) where
   pub record-same : OneResult 𝓤 record·same.ended (record·same.clauses 𝓤)
   record-same = one-result 𝓤 record·same.ended (record·same.clauses 𝓤) (λ κs a. sameOf (a .0) (a .1 .0)) refl
 
+  pub record-same-counter : OneResult 𝓤 record·same-counter.ended (record·same-counter.clauses 𝓤)
+  record-same-counter = one-result 𝓤 record·same-counter.ended (record·same-counter.clauses 𝓤) (λ κs a. sameCounter (a .0) (a .1 .0)) refl
+
+  pub record-same-source : OneResult 𝓤 record·same-source.ended (record·same-source.clauses 𝓤)
+  record-same-source = one-result 𝓤 record·same-source.ended (record·same-source.clauses 𝓤) (λ κs a. sameSource (a .0) (a .1 .0)) refl
+
   pub clocks-run : OneResult 𝓤 clocks·run.ended (clocks·run.clauses 𝓤)
   clocks-run = one-result 𝓤 clocks·run.ended (clocks·run.clauses 𝓤) (λ κs a. ranOf (a .0) (a .1 .0)) refl
+
+  pub alone-alone : OneResult 𝓤 alone·alone.ended (alone·alone.clauses 𝓤)
+  alone-alone = one-result 𝓤 alone·alone.ended (alone·alone.clauses 𝓤) (λ κs a. aloneAfter (a .0) (a .1 .0) (a .1 .1 .0) (a .1 .1 .1 .0) (a .1 .1 .1 .1 .0)) refl
+
+  pub alone-placed : OneResult 𝓤 alone·placed.ended (alone·placed.clauses 𝓤)
+  alone-placed = one-result 𝓤 alone·placed.ended (alone·placed.clauses 𝓤) (λ κs a. placedBy (a .0) (a .1 .0) (a .1 .1 .0)) refl
+
+  pub alone-matched : OneResult 𝓤 alone·matched.ended (alone·matched.clauses 𝓤)
+  alone-matched =
+      one-result 𝓤 alone·matched.ended (alone·matched.clauses 𝓤)
+      (λ κs a. struckBy (hidesBy (a .0)) (eventBy (a .0) (a .1 .0) (a .1 .1 .0)) (a .1 .1 .1 .0)) refl
+
+  pub linked-linked : OneResult 𝓤 linked·linked.ended (linked·linked.clauses 𝓤)
+  linked-linked = one-result 𝓤 linked·linked.ended (linked·linked.clauses 𝓤) (λ κs a. iterate (a .0) (pairedBy (a .1 .0)) (pairOf (a .1 .0))) refl
 
   pub registers-kind-of : OneResult 𝓤 registers·kind-of.ended (registers·kind-of.clauses 𝓤)
   registers-kind-of = one-result 𝓤 registers·kind-of.ended (registers·kind-of.clauses 𝓤) (λ κs a. kindOf (a .0)) refl
@@ -457,6 +492,12 @@ module _ {M : Type 1} (𝓤 : URA M) where
   pub ports-on : OneResult 𝓤 ports·on.ended (ports·on.clauses 𝓤)
   ports-on = one-result 𝓤 ports·on.ended (ports·on.clauses 𝓤) (λ κs a. byteOf (onAt (a .0))) refl
 
+  pub ports-hits : OneResult 𝓤 ports·hits.ended (ports·hits.clauses 𝓤)
+  ports-hits = one-result 𝓤 ports·hits.ended (ports·hits.clauses 𝓤) (λ κs a. byteOf (hitAt (a .0) (a .1 .0) (a .1 .1 .0))) refl
+
+  pub ports-highest : OneResult 𝓤 ports·highest.ended (ports·highest.clauses 𝓤)
+  ports-highest = one-result 𝓤 ports·highest.ended (ports·highest.clauses 𝓤) (λ κs a. highestMatch (a .0) (a .1 .0) (a .1 .1 .0)) refl
+
   pub ports-inputs : OneResult 𝓤 ports·inputs.ended (ports·inputs.clauses 𝓤)
   ports-inputs = one-result 𝓤 ports·inputs.ended (ports·inputs.clauses 𝓤) (λ κs a. inputs (a .0)) refl
 
@@ -503,6 +544,18 @@ module _ {M : Type 1} (𝓤 : URA M) where
 
   pub step-step : OneResult 𝓤 step·step.ended (step·step.clauses 𝓤)
   step-step = one-result 𝓤 step·step.ended (step·step.clauses 𝓤) (λ κs a. stepOf (a .0) (a .1 .0) (a .1 .1 .0)) refl
+
+  pub step-lines-at : OneResult 𝓤 step·lines-at.ended (step·lines-at.clauses 𝓤)
+  step-lines-at = one-result 𝓤 step·lines-at.ended (step·lines-at.clauses 𝓤) (λ κs a. linesAt (a .0) (a .1 .0)) refl
+
+  pub step-link : OneResult 𝓤 step·link.ended (step·link.clauses 𝓤)
+  step-link = one-result 𝓤 step·link.ended (step·link.clauses 𝓤) (λ κs a. linkOf (a .0) (a .1 .0) (a .1 .1 .0)) refl
+
+  pub step-catch-all : OneResult 𝓤 step·catch-all.ended (step·catch-all.clauses 𝓤)
+  step-catch-all = one-result 𝓤 step·catch-all.ended (step·catch-all.clauses 𝓤) (λ κs a. catchers (a .0)) refl
+
+  pub step-matches : OneResult 𝓤 step·matches.ended (step·matches.clauses 𝓤)
+  step-matches = one-result 𝓤 step·matches.ended (step·matches.clauses 𝓤) (λ κs a. matchOf (a .0) (a .1 .0) (a .1 .1 .0) (a .1 .1 .1 .0)) refl
 
   pub texts-glyph : OneResult 𝓤 texts·glyph.ended (texts·glyph.clauses 𝓤)
   texts-glyph = one-result 𝓤 texts·glyph.ended (texts·glyph.clauses 𝓤) (λ κs a. glyphOf (a .0)) refl

@@ -25,13 +25,13 @@ pub fn reset(d: Device) -> Device
     e
 }
 
-fn same_source(s: Source, t: Source) -> bool
+pub fn same_source(s: Source, t: Source) -> bool
     ensures { λ r. ⌜ r ≡ sameSource s t ⌝ }
 {
     (s.ius == t.ius) & (s.ie == t.ie) & (s.ip == t.ip) & (s.err == t.err) & (s.hidden == t.hidden)
 }
 
-fn same_counter(c: Counter, e: Counter) -> bool
+pub fn same_counter(c: Counter, e: Counter) -> bool
     ensures { λ r. ⌜ r ≡ sameCounter c e ⌝ }
 {
     (c.mode == e.mode)

@@ -77,13 +77,14 @@ fn sound_port(enabled: bool, q: Port, path: u8) -> bool
     (q.catcher & (m ^ 255) == 0) & (m & path & (q.catcher ^ 255) == 0)
 }
 
-// PMF only in an enabled port in AND or OR with a bit on.
+// PMF only in an enabled port with a pattern, one of AND and the two ORs, and a bit on.
 fn pmf_only(enabled: bool, p: Pattern) -> bool
     ensures { λ r. ⌜ r ≡ pmfOnly enabled p ⌝ }
 {
     let is_and = p.mode / 2 % 4 == 1;
     let is_or = p.mode / 2 % 4 == 2;
-    !p.pmf | (enabled & (is_and | is_or) & (ports::on(p) != 0))
+    let priority = p.mode / 2 % 4 == 3;
+    !p.pmf | (enabled & (is_and | is_or | priority) & (ports::on(p) != 0))
 }
 
 fn sound_port_at(d: Device, p: usize) -> bool
@@ -161,6 +162,7 @@ fn later_port(version: u8, q: Pattern) -> bool
 {
     settings::later_port_mode(version, wide(q.mode))
         | settings::later_handshake(wide(q.mode), wide(q.handshake))
+        | settings::later_priority(wide(q.mode), wide(q.transition))
 }
 
 fn no_later(d: Device) -> bool

@@ -13,7 +13,9 @@ use Rattle.basics.specs.Byte.{num}
 use Rattle.rules.specs.With.{withIus, withIp, withHidden, withSource, withLines}
 use Rattle.rules.specs.Record.{vectorAt, patternAt, sourceAt, ofPort}
 use Rattle.rules.specs.Handshakes.{irfAt, oreAt}
-use Rattle.rules.specs.Registers.{mie, dlc, nv, vis}
+use Rattle.rules.specs.Registers.{mie, dlc, nv, vis, portEnabled}
+use Rattle.rules.specs.PortData.{seenAt}
+use Rattle.rules.specs.Patterns.{isPriority, highestMatch}
 
 -- "An event (terminal or match) with IP = 0 sets IP. With IP = 1 and ERR = 0 it sets a hidden error (ports: only if IOE)."
 -- Paper 02, W-202: so a terminal "was taken, kept as the hidden error, or lost": lost where it "came while the hidden error
@@ -104,11 +106,24 @@ unfoldable pub portStatus : ℕ → Bool → Bool → Bool → Bool → ℕ
 portStatus base ore irf pmf err =
     base / 16 * 16 + 8 * num (ore && not err) + 4 * num (irf && not err) + 2 * num (pmf && not err) + base % 2
 
+-- paper 02, W-211: "the port's status in D3-D1 is the number of the highest matching bit, 0 if none, ERR or not"
+unfoldable pub priorityStatus : ℕ → ℕ → ℕ
+priorityStatus base n = base / 16 * 16 + 2 * n + base % 2
+
+-- the number of port p's highest matching bit
+unfoldable pub highestAt : Device → ℕ → ℕ
+highestAt d p = highestMatch (portEnabled d p) (patternAt d p) (seenAt d p)
+
+-- the vector of port p with status
+unfoldable pub portVector : Device → ℕ → ℕ → Bool → ℕ
+portVector d p base err =
+    if isPriority (patternAt d p) then priorityStatus base (highestAt d p) else portStatus base (oreAt d p) (irfAt d p) (patternAt d p .pmf) err
+
 -- "With VIS" is with status: the vector of source k with it
 unfoldable pub withStatus : Device → ℕ → ℕ
 withStatus d k =
-    if k % 2 == 1 then portStatus (vectorAt d (vectorOf k)) (oreAt d (k / 2)) (irfAt d (k / 2)) (patternAt d (k / 2) .pmf) (sourceAt d k .err)
-    else counterStatus (vectorAt d (vectorOf k)) (k / 2) (sourceAt d k .err)
+    if k % 2 == 1 then portVector d (k / 2) (vectorAt d (vectorOf k)) (sourceAt d k .err) else
+    counterStatus (vectorAt d (vectorOf k)) (k / 2) (sourceAt d k .err)
 
 -- the vector of source k, with status if its VIS says so
 unfoldable pub vectorFor : Device → ℕ → ℕ

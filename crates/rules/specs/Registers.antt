@@ -97,14 +97,18 @@ unfoldable pub readOnly : ℕ → Bool
 readOnly a = within 0x10 0x15 a || a == 0x1F
 
 -- "20H/28H with D7-D6 not 00, D2-D1 = 11 or D0 = 1". Paper 02, W-206: "Code 4 then covers only D7-D6 = 11 of the four
--- port types."; W-205: "A version 1 device refuses handshake settings with 4."
+-- port types."; W-205: "A version 1 device refuses handshake settings with 4."; W-211: "Version 1 devices still refuse the mode."
 unfoldable pub laterPortMode : ℕ → ℕ → Bool
-laterPortMode version b = ltb (if version == 1 then 0 else 2) (b / 64) || b / 2 % 4 == 3 || bit b 0
+laterPortMode version b = ltb (if version == 1 then 0 else 2) (b / 64) || (version == 1 && b / 2 % 4 == 3) || bit b 0
 
 -- "It now covers a handshake port with D3-D1 not 000, with ITB and SB, or whose register 21H or 29H has D7-D6 = 10 or 11 (Pulsed,
 -- 3-Wire) or D5-D3 not 000 (REQUEST/WAIT)": of the bytes of both registers
 unfoldable pub laterHandshake : ℕ → ℕ → Bool
 laterHandshake m h = (m / 64 == 1 || m / 64 == 2) && (not (m / 2 % 8 == 0) || (bit m 5 && bit m 4) || ltb 1 (h / 64) || not (h / 8 % 8 == 0))
+
+-- W-211: "4 is kept for this mode with any transition bit set": of the bytes of both registers, in a bit port
+unfoldable pub laterPriority : ℕ → ℕ → Bool
+laterPriority m t = m / 64 == 0 && m / 2 % 4 == 3 && not (t == 0)
 
 -- "01H with D3 = 1"
 unfoldable pub laterConfig : ℕ → Bool
@@ -118,11 +122,12 @@ laterCounterMode b = b % 4 == 3
 unfoldable pub portOf : ℕ → ℕ
 portOf a = if ltb a 0x28 then 0 else 1
 
--- 4: "Code 4 is for" those: the byte b to address a of the device d; of a handshake port "whichever register is written last"
+-- 4: "Code 4 is for" those: the byte b to address a of the device d; of two registers "whichever register is written last"
 unfoldable pub later : Device → ℕ → ℕ → Bool
 later d a b =
-    ((a == 0x20 || a == 0x28) && (laterPortMode (d .version) b || laterHandshake b (patternAt d (portOf a) .handshake)))
+    ((a == 0x20 || a == 0x28) && (laterPortMode (d .version) b || laterHandshake b (patternAt d (portOf a) .handshake) || laterPriority b (patternAt d (portOf a) .transition)))
     || ((a == 0x21 || a == 0x29) && laterHandshake (patternAt d (portOf a) .mode) b)
+    || ((a == 0x26 || a == 0x2E) && laterPriority (patternAt d (portOf a) .mode) b)
     || (a == 0x01 && laterConfig b) || (within 0x1C 0x1E a && laterCounterMode b)
 
 -- ---- the command registers

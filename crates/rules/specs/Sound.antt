@@ -14,10 +14,10 @@ use Rattle.basics.specs.Signs.{_==_}
 use Rattle.basics.specs.Byte.{bit, every, any}
 use Rattle.rules.specs.With.{withLines}
 use Rattle.rules.specs.Record.{vectorAt, portAt, patternAt, transferAt, counterAt, sourceAt, vacant, ofPort, resetOf}
-use Rattle.rules.specs.Registers.{reset, portEnabled, counterEnabled, laterConfig, laterPortMode, laterHandshake, laterCounterMode}
+use Rattle.rules.specs.Registers.{reset, portEnabled, counterEnabled, laterConfig, laterPortMode, laterHandshake, laterPriority, laterCounterMode}
 use Rattle.rules.specs.Handshakes.{outputs, handshakes, itb, strobed, depth}
 use Rattle.rules.specs.PortData.{catchesAt, effectiveAt, pathAt}
-use Rattle.rules.specs.Patterns.{isAnd, isOr, onAt}
+use Rattle.rules.specs.Patterns.{isAnd, isOr, isPriority, onAt}
 use Rattle.rules.specs.Interrupts.{linesOf}
 
 -- if the first, the second
@@ -31,7 +31,7 @@ fourBits q =
 
 -- "no code 4 setting"
 abbrev pub laterPort : ℕ → Pattern → Bool
-laterPort version q = laterPortMode version (q .mode) || laterHandshake (q .mode) (q .handshake)
+laterPort version q = laterPortMode version (q .mode) || laterHandshake (q .mode) (q .handshake) || laterPriority (q .mode) (q .transition)
 
 unfoldable pub noLater : Device → Bool
 noLater d =
@@ -80,9 +80,9 @@ catcherSet enabled q path = every (λ k. only (catchesAt enabled q k && bit path
 unfoldable pub soundPort : Bool → Port → ℕ → Bool
 soundPort enabled q path = catcherOnly enabled q && catcherSet enabled q path
 
--- "PMF only in an enabled port in mode 01 or 10 with a bit on"
+-- "PMF only in an enabled port in mode 01 or 10 with a bit on"; W-211: in mode 11 "PMF 1 is sound"
 unfoldable pub pmfOnly : Bool → Pattern → Bool
-pmfOnly enabled p = only (p .pmf) (enabled && (isAnd p || isOr p) && any (onAt p))
+pmfOnly enabled p = only (p .pmf) (enabled && (isAnd p || isOr p || isPriority p) && any (onAt p))
 
 -- ---- paper 02, W-203 and W-206: what a port with handshake may hold
 unfoldable pub sameTransfer : Transfer → Transfer → Bool

@@ -21,7 +21,7 @@ use Rattle.rules.specs.Report.{noReport, reportsAdded, stepReport}
 use Rattle.rules.specs.Registers.{portEnabled, counterEnabled, lc, reset}
 use Rattle.rules.specs.PortData.{caughtOf, effectiveAt, pathAt, seenAt}
 use Rattle.rules.specs.Counters.{outputOf, unlinked, linkOf, reachOf, turnOf}
-use Rattle.rules.specs.Patterns.{matchOf}
+use Rattle.rules.specs.Patterns.{matchOf, eventBy, hidesBy}
 use Rattle.rules.specs.Interrupts.{fateOf, afterFate, came, wasLost}
 
 -- "Lines: CT1 output, count, trigger, gate PB4-PB7; CT2 PB0-PB3; CT3 PC0-PC3. Inputs are path values without catchers":
@@ -55,7 +55,7 @@ catchers d = withPorts d (caughtAt d 0 ∷ caughtAt d 1 ∷ caughtAt d 2 ∷ [])
 -- (f): the pattern of port p. "PMF is the last step's match. No-match to match is a port event."
 unfoldable pub matchedBy : ℕ → Bool → Device → Device
 matchedBy p matches d =
-    eventAt (withPattern d p (withPmf (patternAt d p) matches)) (ofPort p) (patternAt d p .ioe) (matches && not (patternAt d p .pmf))
+    eventAt (withPattern d p (withPmf (patternAt d p) matches)) (ofPort p) (hidesBy (patternAt d p)) (eventBy (patternAt d p) (patternAt d p .pmf) matches)
 
 -- "edges compare before the step with after (e)"
 unfoldable pub patternTurn : ℕ → ℕ → Device → Device

@@ -7,12 +7,14 @@ ghost use Rattle.rules.specs.Record.{counterAt};
 ghost use Rattle.rules.specs.Registers.{lc};
 ghost use Rattle.rules.specs.Counters.{outputOf, linkOf};
 ghost use Rattle.rules.specs.PortData.{caughtOf};
+ghost use Rattle.rules.specs.Patterns.{matchOf};
 ghost use Rattle.rules.specs.Interrupts.{afterFate, came, wasLost};
 ghost use Rattle.rules.specs.Step.{linesAt, eventAt, turned, counterTurn, catchers, caughtAt, matchedBy, patternTurn, settled, stepOf};
 use rules::Counted;
 use rules::Device;
 use rules::Fate;
 use rules::Link;
+use rules::Pattern;
 use rules::Port;
 use rules::Source;
 use rules::Stepped;
@@ -87,7 +89,7 @@ fn turned_by(d: Device, i: usize, r: Counted) -> Turned
 }
 
 // The four lines of counter i, as D0 to D3.
-fn lines_at(d: Device, i: usize) -> u8
+pub fn lines_at(d: Device, i: usize) -> u8
     ensures { λ r. ⌜ r ≡ linesAt d i ⌝ }
 {
     if i == 0 {
@@ -119,7 +121,7 @@ fn counter_turn(k: Link, timer: bool, d0: Device, d1: Device, i: usize, d: Devic
 }
 
 // What LC makes of CT1's output before the step and after (b).
-fn link(lc: u8, before: bool, after: bool) -> Link
+pub fn link(lc: u8, before: bool, after: bool) -> Link
     ensures { λ r. ⌜ r ≡ linkOf lc before after ⌝ }
 {
     let rises = !before & after;
@@ -165,12 +167,24 @@ fn caught_at(d: Device, p: usize) -> Port
     e
 }
 
-fn catch_all(d: Device) -> Device
+// The catchers of all ports.
+pub fn catch_all(d: Device) -> Device
     ensures { λ r. ⌜ r ≡ catchers d ⌝ }
 {
     let mut e = d;
     e.ports = [caught_at(d, 0), caught_at(d, 1), caught_at(d, 2)];
     e
+}
+
+// Whether the pattern p of a port matches, by what it saw before and after.
+pub fn matches(enabled: bool, p: Pattern, before: u8, after: u8) -> bool
+    ensures { λ r. ⌜ r ≡ matchOf enabled p before after ⌝ }
+{
+    let is_and = p.mode / 2 % 4 == 1;
+    let is_or = 2 <= p.mode / 2 % 4;
+    enabled
+        & ((is_and & pattern::and_match(p, before, after))
+            | (is_or & pattern::or_match(p, before, after)))
 }
 
 // PMF of port p, and its event.
@@ -181,7 +195,13 @@ fn matched_by(p: usize, matches: bool, d: Device) -> Device
     let q = d.patterns[p];
     let mut e = d;
     e.patterns[p].pmf = matches;
-    event_at(e, Source::of_port(p), q.ioe, matches & !q.pmf)
+    let priority = q.mode / 2 % 4 == 3;
+    event_at(
+        e,
+        Source::of_port(p),
+        q.ioe & !priority,
+        matches & (priority | !q.pmf),
+    )
 }
 
 fn pattern_turn(p: usize, before: u8, d: Device) -> Device
@@ -191,7 +211,7 @@ fn pattern_turn(p: usize, before: u8, d: Device) -> Device
     let q = d.patterns[p];
     matched_by(
         p,
-        pattern::matches(levels::port_enabled(d, p), q, before, levels::seen_at(d, p)),
+        matches(levels::port_enabled(d, p), q, before, levels::seen_at(d, p)),
         d,
     )
 }

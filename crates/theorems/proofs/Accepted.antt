@@ -100,7 +100,7 @@ read-effect d a h i =
     (λ _. h) (λ z. read-parts d a h i (reached d a (reset d) refl z))
 
 -- ---- what code 0 tells of a write, of outside levels, of an acknowledge
-neither : (a b : Bool) → (a || b) ≡ false → (a ≡ false) × (b ≡ false)
+pub neither : (a b : Bool) → (a || b) ≡ false → (a ≡ false) × (b ≡ false)
 neither true b h = (h, absurd (true≢false h))
 neither false b h = (refl, h)
 

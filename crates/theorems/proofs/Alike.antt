@@ -2,7 +2,7 @@
 -- Assumes nothing.
 use Prim.Native.Nat.{ℕ}
 use mathlib.Core.Path.{_≡_, refl, ap, ap₂, _∙_}
-use mathlib.Core.Bool.{Bool, not, _&&_, _||_, cond}
+use mathlib.Core.Bool.{Bool, _||_, cond}
 use mathlib.Core.List.{List}
 use lib.Dec.{eqb}
 use lib.ListN.{getD}
@@ -68,8 +68,7 @@ module _ (d : Device) (m : List Counter) (a : Alike (d .version) (d .counters) m
 matched-others : (p : ℕ) (matches : Bool) (d : Device) (m : List Counter) → matchedBy p matches (others d m) ≡ others (matchedBy p matches d) m
 unfolding matchedBy
 matched-others p matches d m =
-    event-apart (λ (e : Device). others e m) (λ e. refl) (λ e k s. refl) (withPattern d p (withPmf (patternAt d p) matches)) (ofPort p) (patternAt d p .ioe)
-    (matches && not (patternAt d p .pmf))
+    event-apart (λ (e : Device). others e m) (λ e. refl) (λ e k s. refl) (withPattern d p (withPmf (patternAt d p) matches)) (ofPort p) _ _
 
 pattern-alike : (p before : ℕ) (d : Device) (m : List Counter) → Alike (d .version) (d .counters) m
     → patternTurn p before (others d m) ≡ others (patternTurn p before d) m
@@ -78,7 +77,7 @@ pattern-alike p before d m a =
     ap (λ (x : ℕ). matchedBy p (matchOf (portEnabled d p) (patternAt d p) before x) (others d m)) (seen-alike d m a p)
     ∙ matched-others p _ d m
 
-pattern-counters : (p before : ℕ) (d : Device) → patternTurn p before d .counters ≡ d .counters
+pub pattern-counters : (p before : ℕ) (d : Device) → patternTurn p before d .counters ≡ d .counters
 unfolding patternTurn matchedBy
 pattern-counters p before d = event-counters _ (ofPort p) _ _
 

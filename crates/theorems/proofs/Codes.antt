@@ -92,7 +92,7 @@ module _ (d : Device) (e : Event) where
   test-0 = by-table 0 (λ s u n t h r y f l k. s && not u && not n && not t && (h || (not r && not y && not f && not l && not k))) tt
 
 -- ---- the kinds exclude one another
-or-so : {C : Type 0} (a b : Bool) → (So a → C) → (So b → C) → So (a || b) → C
+pub or-so : {C : Type 0} (a b : Bool) → (So a → C) → (So b → C) → So (a || b) → C
 or-so true b f g h = f refl
 or-so false b f g h = g h
 

@@ -2,14 +2,14 @@
 -- Assumes nothing.
 use Prim.Native.Nat.{ℕ, zero, suc, _+_, _-_, _*_, _/_, _%_, _≤_, _<_}
 use mathlib.Core.Path.{_≡_, refl, sym, ap, _∙_}
-use mathlib.Core.Bool.{_&&_, cond, and-false}
+use mathlib.Core.Bool.{true, _&&_, cond, and-false}
 use mathlib.Core.Logic.{_⊎_, inl, inr, ⊎-elim}
 use native.Mathlib.Nat.{zero-mul, suc-mul, zero-add, eq-or-lt-of-le, mod-eq-of-lt, mod-self, add-mod-right}
 use native.Mathlib.Numerals.{add-one, one-add}
 use native.Mathlib.Omega.{arith}
 use lib.Arith.{digits-div, digits-mod}
 use lib.Dec.{eqb, leb}
-use borrow.Author.Tests.{ne-eqb, lt-ltb, le-ltb, lt-leb, le-leb}
+use borrow.Author.Tests.{eqb-true, ne-eqb, lt-ltb, le-ltb, lt-leb, le-leb}
 use Rattle.rules.specs.Counters.{lessOne}
 use Rattle.basics.specs.Iterate.{iterate}
 use Rattle.theorems.specs.Free.{fullOf, terminalsAfter, countAfter}
@@ -25,7 +25,7 @@ full-cases m zero = inl (refl, refl)
 full-cases m (suc n) = inr (omega arith, simp (ne-eqb (suc n) 0 (λ e. omega arith)))
 
 module _ (m n : ℕ) (h : n < m) where
-  full-pos : 1 ≤ fullOf m n
+  pub full-pos : 1 ≤ fullOf m n
   full-pos = ⊎-elim (λ w. omega arith) (λ w. omega arith) (full-cases m n)
 
   full-le : fullOf m n ≤ m
@@ -160,6 +160,16 @@ module _ (m c t : ℕ) (hc : c < m) (ht : t < m) where
       let r = reached k in
       ap (λ (n : ℕ). eqb (lessOne m n) 0) (ap (λ (s : ℕ × ℕ). s .0) (r .state))
       ∙ ap (λ (n : ℕ). eqb n 0) (less-one m (r .q) (r .pos) (small k _ r)) ∙ last k (r .q) (r .p) (r .sum) (r .pos) (r .bound)
+
+  -- and which count that is
+  pub last-clock : (k : ℕ) → eqb (lessOne m (iterate k (countdown m t) (c, 0) .0)) 0 ≡ true
+      → suc k ≡ fullOf m c + iterate k (countdown m t) (c, 0) .1 * fullOf m t
+  last-clock k e =
+      let r = reached k in
+      let less = ap (λ (s : ℕ × ℕ). lessOne m (s .0)) (r .state) ∙ less-one m (r .q) (r .pos) (small k _ r) in
+      let none : r .q - 1 ≡ 0 = sym less ∙ eqb-true _ 0 e in
+      let one : suc k ≡ k + r .q = omega (arith, none, r .pos) in
+      one ∙ r .sum ∙ ap (λ (s : ℕ × ℕ). fullOf m c + s .1 * fullOf m t) (sym (r .state))
 
   -- k counts by division, "Counts are written modulo" m
   pub counts-by-division : (k : ℕ)

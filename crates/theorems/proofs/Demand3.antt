@@ -22,7 +22,8 @@ use Rattle.rules.specs.Step.{ranOf}
 use Rattle.rules.specs.Interrupts.{linesOf, relined}
 use Rattle.rules.specs.Sound.{soundOf}
 use Rattle.rules.specs.Events.{isT, unknown, noRegister, tooLarge, held, noByte, noRoom, codeOf, effect, clocksEffect, effectOf, relit, answerOf, unsoundAnswer, outcomeOf, eventOf}
-use Rattle.theorems.specs.Traces.{answersOf, recordAfter, tracedOf, cutBy}
+use Rattle.basics.specs.Runs.{recordThrough, answersThrough}
+use Rattle.theorems.specs.Traces.{tracedOf, cutBy}
 use Rattle.theorems.specs.Ticks.{tick, onlyT, onlyT1, allClocks, onTop, answersAdded, answersAsOne, asOne}
 use Rattle.theorems.specs.Reports.{Fits}
 use Rattle.theorems.specs.Free.{timerClocks}
@@ -109,7 +110,7 @@ two-by false d a b s =
 
 -- the clocks of a first T, and the clocks of those after it
 cut-by : (d : Device) (f : Event) (l : List Event) → So (isT f) → So (onlyT l) → eventOf d (tick (f .a + allClocks l)) ≡ asOne (tracedOf d (f ∷ l))
-unfolding onlyT allClocks recordAfter answersOf answersAsOne
+unfolding onlyT allClocks recordThrough answersThrough answersAsOne
 cut-by d f [] t h = ap (λ (n : ℕ). eventOf d (tick n)) (add-zero (f .a)) ∙ sym (as-tick d f t)
 cut-by d f (g ∷ l) t h =
     two-by _ d (f .a) (allClocks (g ∷ l)) refl

@@ -48,7 +48,7 @@ path-bit enabled q v k h =
     bit-byte _ k h ∙ ap (λ (x : Bool). pathBit (bit (q .direction) k) x (bit (q .polarity) k) (bit v k)) (bit-byte _ k h)
 
 -- a bit that catches is an input, and shows nothing that the port puts out
-unseen : (e i s p o v w : Bool) → (catches e i s && pathBit i (pinBit e i s p v o) p v) ≡ (catches e i s && pathBit i (pinBit e i s p w o) p w)
+pub unseen : (e i s p o v w : Bool) → (catches e i s && pathBit i (pinBit e i s p v o) p v) ≡ (catches e i s && pathBit i (pinBit e i s p w o) p w)
 unfolding catches pathBit pinBit
 unseen e i s p o v w =
     same _ _

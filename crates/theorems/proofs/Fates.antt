@@ -15,6 +15,7 @@ use Rattle.rules.specs.With.{withIp, withHidden, withSource}
 use Rattle.rules.specs.Interrupts.{fateOf, afterFate, came}
 use Rattle.rules.specs.Step.{eventAt}
 use Rattle.basics.proofs.Tests.{so-both, left, right, by-test}
+use Rattle.theorems.specs.Alone.{leftBy}
 
 is-so : (a : Bool) → not a ≡ false → So a
 is-so true h = refl
@@ -61,14 +62,8 @@ module _ (P : Device → Type 0) (d : Device) (k : ℕ) (hides happens : Bool) (
       (so-both (is-so (source .ip) i) (right hides (not (source .err)) (left hidable (not (source .hidden)) t)))) (λ _. as-it-was)))
 
 -- ---- at its own place the source that the fate leaves, and the others as they were
-abbrev pub leftBy : Fate → Source → Source
-leftBy Nothing s = s
-leftBy Taken s = withIp s true
-leftBy Kept s = withHidden s true
-leftBy Lost s = s
-
 fate-here : (d : Device) (k : ℕ) (f : Fate) → k < length (d .sources) → sourceAt (afterFate d k f) k ≡ leftBy f (sourceAt d k)
-unfolding afterFate
+unfolding afterFate leftBy
 fate-here d k Nothing h = refl
 fate-here d k Taken h = getD-set-same (d .sources) k _ quiet h
 fate-here d k Kept h = getD-set-same (d .sources) k _ quiet h

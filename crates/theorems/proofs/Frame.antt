@@ -75,7 +75,7 @@ pub frame-turn : (k : Link) (timer : Bool) (were are i : ℕ) (d : Device) → F
 unfolding counterTurn
 frame-turn k timer were are i d = frame-turned d i _
 
-frame-catchers : (d : Device) → Frame d (catchers d)
+pub frame-catchers : (d : Device) → Frame d (catchers d)
 unfolding catchers caughtAt
 frame-catchers d =
     record {
@@ -113,7 +113,7 @@ frame-matched p matches d =
       handshakes = pmf-handshakes d p matches;
       transfers = refl;
     } in
-    frame-trans w (frame-event (withPattern d p (withPmf (patternAt d p) matches)) (ofPort p) (patternAt d p .ioe) _)
+    frame-trans w (frame-event (withPattern d p (withPmf (patternAt d p) matches)) (ofPort p) _ _)
 
 pub frame-pattern : (p before : ℕ) (d : Device) → Frame d (patternTurn p before d)
 unfolding patternTurn

@@ -39,15 +39,26 @@ pub mod Bytes
 pub mod Demand3
 -- The version, which every event keeps.
 pub mod Versions
--- Clocks: a free-running counter by division.
+-- Clocks: a free-running counter by division, and a counter that goes alone, with its source.
 pub mod Countdown
 pub mod Lines
 pub mod Timer
 pub mod Losses
+pub mod Sources
 pub mod Division
--- Clocks: many at once, as whole rounds and as a stretch.
+pub mod Alone
+-- Clocks: what moves in T, part by part (W-210).
+pub mod Ticking
+pub mod Caught
+pub mod Moving
+pub mod Formula
+pub mod Nights
+-- Clocks: many at once, as whole rounds; what is seen of a counter, and a counter in a stretch.
 pub mod Rounds
 pub mod Alike
 pub mod Lowered
-pub mod Turns
-pub mod Stretch
+-- What a step does not see; what it leaves of a port, and a pattern with priority (W-211).
+pub mod Apart
+pub mod Sides
+pub mod Priority
+pub mod Ioe

@@ -27,10 +27,11 @@ use Rattle.rules.specs.Sound.{soundOf}
 use Rattle.basics.proofs.Tests.{left}
 use Rattle.basics.proofs.Places.{all-zero}
 use Rattle.theorems.specs.Free.{freePlaces, lostAfter}
+use Rattle.theorems.specs.Alone.{leftBy}
 use Rattle.theorems.proofs.Parts.{SourceSound}
 use Rattle.theorems.proofs.Clauses.{sound-parts}
 use Rattle.theorems.proofs.SourceLaws.{ip-sound, hidden-sound}
-use Rattle.theorems.proofs.Fates.{came-is, leftBy, event-here, event-there}
+use Rattle.theorems.proofs.Fates.{came-is, event-here, event-there}
 use Rattle.theorems.proofs.Shapes.{phase-shaped, counter-turn-shaped, step-shaped}
 use Rattle.theorems.proofs.ReportLaws.{theTerminals, theLost}
 use Rattle.theorems.proofs.Reports.{clock-held, clock-first, clock-timer, added-at}
@@ -51,25 +52,25 @@ module _ (s : Source) (sound : SourceSound s) where
   PlacedBy t f = Placed s t (leftBy f s) (wasLost f)
 
   taken : s .ip ≡ false → PlacedBy true Taken
-  unfolding freePlaces wasLost
+  unfolding freePlaces wasLost leftBy
   taken i =
       let no-err = unset (s .err) (s .ip) (sound .err) i in
       let no-hidden = unset (s .hidden) (s .ip) (λ t. left (s .ip) (not (s .err)) (sound .hidden t)) i in
-      record { sound = ip-sound s sound; places = simp (i, no-err, no-hidden); lost = simp i }
+      record { sound = ip-sound s sound; places = simp (i, no-err, no-hidden); lost = simp (i, no-err, no-hidden) }
 
   kept : s .ip ≡ true → s .err ≡ false → s .hidden ≡ false → PlacedBy true Kept
-  unfolding freePlaces wasLost
+  unfolding freePlaces wasLost leftBy
   kept i x y = record { sound = hidden-sound s (simp (i, x)); places = simp (i, x, y); lost = simp (i, x, y) }
 
   lost : s .ip ≡ true → (s .err || s .hidden) ≡ true → PlacedBy true Lost
-  unfolding freePlaces wasLost
+  unfolding freePlaces wasLost leftBy
   lost i x = record { sound = sound; places = simp (i, x); lost = simp (i, x) }
 
   by-its-fate : (t : Bool) (f : Fate) → fateOf true t s ≡ f → PlacedBy t f → PlacedBy t (fateOf true t s)
   by-its-fate t f e p = subst (PlacedBy t) (sym e) p
 
   placed-by : (t p e h : Bool) → s .ip ≡ p → s .err ≡ e → s .hidden ≡ h → PlacedBy t (fateOf true t s)
-  unfolding fateOf wasLost
+  unfolding fateOf wasLost leftBy
   placed-by false p e h i x y = record { sound = sound; places = sym (sub-zero (freePlaces s)); lost = omega arith }
   placed-by true false e h i x y = by-its-fate true Taken (simp i) (taken i)
   placed-by true true true h i x y = by-its-fate true Lost (simp (i, x)) (lost i (simp x))
@@ -93,7 +94,7 @@ module _ (link : Link) (timer : Bool) (were are i : ℕ) (d : Device) where
   unfolding counterTurn turned eventAt
   turn-here h = event-here (withCounter d i _) (ofCounter i) true _ h
 
-  turn-there : (j : ℕ) → (j ≡ ofCounter i → ⊥) → sourceAt (turn .device) j ≡ sourceAt d j
+  pub turn-there : (j : ℕ) → (j ≡ ofCounter i → ⊥) → sourceAt (turn .device) j ≡ sourceAt d j
   unfolding counterTurn turned eventAt
   turn-there j h = event-there (withCounter d i _) (ofCounter i) j true _ h
 

@@ -51,7 +51,7 @@ lower-zero true c = ap (withCount c) (sub-zero (c .count))
 lower-zero false c = refl
 
 -- ---- its turn: where no line moves, it is loaded by a link alone
-not-loaded : (n : ℕ) (on : Bool) (k : Link) (w : ℕ) (c : Counter) → k .trigger ≡ false
+pub not-loaded : (n : ℕ) (on : Bool) (k : Link) (w : ℕ) (c : Counter) → k .trigger ≡ false
     → turnOf n on (reachOf c k true w w) c ≡ cond (clocks on (reachOf c k true w w) c) (clockedBy n c) (quietly c)
 unfolding turnOf reachOf
 not-loaded n on k w c t = simp (t, not-and-self, and-false)

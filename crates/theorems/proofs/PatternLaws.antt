@@ -1,11 +1,11 @@
--- A match is one of an enabled port in mode AND or OR with a bit on: so PMF after its turn in a step is sound, whatever stood there.
+-- A match is one of an enabled port in mode AND, OR or priority with a bit on: so PMF after its turn in a step is sound, whatever stood there.
 -- Assumes nothing.
 use Prim.Native.Nat.{ℕ}
 use mathlib.Core.Path.{_≡_, refl}
 use mathlib.Core.Bool.{Bool, true, false, not, _&&_, _||_, So, false≢true}
 use Rattle.rules.specs.declared.Pattern.{Pattern}
 use Rattle.basics.specs.Byte.{bit, every, any}
-use Rattle.rules.specs.Patterns.{onBit, hitBit, onAt, hitAt, andMatch, orMatch, isAnd, isOr, matchOf}
+use Rattle.rules.specs.Patterns.{onBit, hitBit, onAt, hitAt, andMatch, orMatch, isAnd, isOr, isPriority, matchOf}
 use Rattle.rules.specs.With.{withPmf}
 use Rattle.rules.specs.Sound.{pmfOnly}
 use Rattle.basics.proofs.Tests.{left}
@@ -41,19 +41,21 @@ and-on : (q : Pattern) (b a : ℕ) → So (andMatch q b a) → So (any (onAt q))
 unfolding andMatch
 and-on q b a h = left (any (onAt q)) (every (λ k. not (onAt q k) || hitAt q b a k)) h
 
-matched : (e a x o y on : Bool) → (So x → So on) → (So y → So on) → So (e && ((a && x) || (o && y))) → So (e && (a || o) && on)
-matched false a x o y on f g h = h
-matched true true true o y on f g h = f refl
-matched true true false true y on f g h = g h
-matched true true false false y on f g h = absurd (false≢true h)
-matched true false x true y on f g h = g h
-matched true false x false y on f g h = absurd (false≢true h)
+matched : (e a x o r y on : Bool) → (So x → So on) → (So y → So on) → So (e && ((a && x) || ((o || r) && y))) → So (e && (a || o || r) && on)
+matched false a x o r y on f g h = h
+matched true true true o r y on f g h = f refl
+matched true true false true r y on f g h = g h
+matched true true false false true y on f g h = g h
+matched true true false false false y on f g h = absurd (false≢true h)
+matched true false x true r y on f g h = g h
+matched true false x false true y on f g h = g h
+matched true false x false false y on f g h = absurd (false≢true h)
 
 pub pmf-sound : (e : Bool) (q : Pattern) (b a : ℕ) → So (pmfOnly e (withPmf q (matchOf e q b a)))
 unfolding pmfOnly matchOf onAt
 pmf-sound e q b a =
-    only-if (matchOf e q b a) (e && (isAnd q || isOr q) && any (onAt q))
-    (matched e (isAnd q) (andMatch q b a) (isOr q) (orMatch q b a) (any (onAt q)) (and-on q b a) (or-on q b a))
+    only-if (matchOf e q b a) (e && (isAnd q || isOr q || isPriority q) && any (onAt q))
+    (matched e (isAnd q) (andMatch q b a) (isOr q) (isPriority q) (orMatch q b a) (any (onAt q)) (and-on q b a) (or-on q b a))
 
 pub match-off : (e : Bool) (q : Pattern) (b a : ℕ) → e ≡ false → matchOf e q b a ≡ false
 unfolding matchOf

@@ -86,11 +86,11 @@ pub counter-turn-shaped : (link : Link) (timer : Bool) (were are i : ℕ) (d : D
 unfolding counterTurn
 counter-turn-shaped link timer were are i d h = turned-shaped d i _ h
 
-catchers-shaped : (d : Device) → Shaped d → Shaped (catchers d)
+pub catchers-shaped : (d : Device) → Shaped d → Shaped (catchers d)
 unfolding catchers
 catchers-shaped d h = record { vectors = h .vectors; ports = refl; patterns = h .patterns; transfers = h .transfers; counters = h .counters; sources = h .sources }
 
-pattern-turn-shaped : (p before : ℕ) (d : Device) → Shaped d → Shaped (patternTurn p before d)
+pub pattern-turn-shaped : (p before : ℕ) (d : Device) → Shaped d → Shaped (patternTurn p before d)
 unfolding patternTurn matchedBy
 pattern-turn-shaped p before d h = event-at-shaped (withPattern d p _) (pattern-shaped d h p _) (ofPort p) _ _
 
@@ -162,7 +162,7 @@ moves-at-shaped p d0 d h =
     by-test Shaped (falls d0 d p) _ _ (λ _. by-test Shaped (inputs (patternAt d p)) _ _ (λ _. taken-shaped d h p) (λ _. left-shaped d h p))
     (λ _. by-test Shaped (worksAt d p && ackinAt d p) _ _ (λ _. transfer-shaped d h p _) (λ _. h))
 
-moves-shaped : (d0 d : Device) → Shaped d → Shaped (movesOf d0 d)
+pub moves-shaped : (d0 d : Device) → Shaped d → Shaped (movesOf d0 d)
 unfolding movesOf
 moves-shaped d0 d h = moves-at-shaped 1 d0 _ (moves-at-shaped 0 d0 d h)
 

@@ -4,7 +4,7 @@
 use Prim.Native.Nat.{ℕ}
 use mathlib.Core.Path.{_≡_, refl, sym, subst, _∙_}
 use mathlib.Core.Bool.{true, true≢false}
-use mathlib.Core.List.{List, [], _∷_}
+use mathlib.Core.List.{List}
 use lib.Dec.{lit<}
 use Rattle.rules.specs.declared.Device.{Device}
 use Rattle.rules.specs.declared.Event.{Event}
@@ -18,6 +18,8 @@ use Rattle.rules.specs.Events.{relit, outcomeOf, eventOf}
 use Rattle.rules.specs.Interrupts.{linesOf, relined}
 use Rattle.rules.specs.Sound.{sameLines, soundButLines, soundLines, soundOf}
 use Rattle.basics.proofs.Tests.{so-both, not-so}
+use Rattle.basics.proofs.Runs.{list-kept}
+use Rattle.theorems.specs.Traces.{nextOf, recordAfter}
 use Rattle.theorems.proofs.Equal.{lines-same}
 use Rattle.theorems.proofs.Parts.{Sound}
 use Rattle.theorems.proofs.Clauses.{clauses, sound-parts, parts-sound}
@@ -61,17 +63,18 @@ unfolding outcomeOf relit
 event-sound d e k h =
     ways d e (λ (o : Outcome). soundOf (o .device) ≡ true) (λ _. h) (λ z. relined-sound _ (effect-parts d e z k (sound-parts d h))) (λ _. h)
 
--- any events, one after another
-abbrev pub after : Device → List Event → Device
-after d [] = d
-after d (e ∷ es) = after (eventOf d e .device) es
+-- any events, one after another, from a sound record of the device's shape
+abbrev pub Good : Device → Type 0
+Good d = Shaped d × (soundOf d ≡ true)
 
-pub events-sound : (es : List Event) (d : Device) → Shaped d → soundOf d ≡ true → soundOf (after d es) ≡ true
-events-sound [] d k h = h
-events-sound (e ∷ es) d k h = events-sound es (eventOf d e .device) (event-shaped d k e) (event-sound d e k h)
+pub event-good : (d : Device) (e : Event) → Good d → Good (nextOf d e)
+event-good d e g = (event-shaped d (g .0) e, event-sound d e (g .0) (g .1))
+
+pub list-good : (d : Device) (l : List Event) → Good d → Good (recordAfter d l)
+list-good = list-kept nextOf Good event-good
 
 -- so from the fresh device no event comes to code 9
-pub never-unsound : (es : List Event) (e : Event) → eventOf (after freshOf es) e .answer .code ≡ 9 → ⊥
-never-unsound es e n =
-    let d = after freshOf es in
-    true≢false (sym (events-sound es freshOf fresh-shaped fresh-sound) ∙ not-so (soundOf d) (code-9 d e .0 (sym (code-is d e) ∙ n)))
+pub never-unsound : (l : List Event) (e : Event) → eventOf (recordAfter freshOf l) e .answer .code ≡ 9 → ⊥
+never-unsound l e n =
+    let d = recordAfter freshOf l in
+    true≢false (sym (list-good freshOf l (fresh-shaped, fresh-sound) .1) ∙ not-so (soundOf d) (code-9 d e .0 (sym (code-is d e) ∙ n)))

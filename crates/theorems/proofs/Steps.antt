@@ -2,7 +2,7 @@
 -- Assumes nothing.
 use Prim.Native.Nat.{ℕ, _<_}
 use mathlib.Core.Path.{_≡_, refl, ap, _∙_}
-use mathlib.Core.Bool.{Bool, true, false, not, _&&_, So}
+use mathlib.Core.Bool.{Bool, true, false, So}
 use mathlib.Core.List.{[], _∷_}
 use lib.Dec.{lit<}
 use lib.ListN.{getD}
@@ -16,7 +16,7 @@ use Rattle.rules.specs.Registers.{portOn, portEnabled, counterOn, counterEnable
 use Rattle.rules.specs.Handshakes.{isLine, ackinAt, offersAt, shownAt}
 use Rattle.rules.specs.PortData.{directionAt, specialAt, effectiveAt, lined, valueAt, pinsOf, pathOf, pinsAt, pathAt, seenAt}
 use Rattle.rules.specs.Counters.{unlinked, reachOf, turnOf}
-use Rattle.rules.specs.Patterns.{matchOf}
+use Rattle.rules.specs.Patterns.{matchOf, eventBy, hidesBy}
 use Rattle.rules.specs.Step.{linesAt, eventAt, turned, counterTurn, caughtAt, catchers, matchedBy, patternTurn, settled, stepOf}
 use Rattle.rules.specs.Sound.{pmfOnly, soundPortAt}
 use Rattle.basics.proofs.Tests.{never}
@@ -115,12 +115,12 @@ pmf-blank q m z e =
     }
 
 pattern-base : (p before : ℕ) (d : Device) → p < 3 → Base d → Base (patternTurn p before d)
-unfolding patternTurn matchedBy
+unfolding patternTurn matchedBy eventBy
 pattern-base p before d l h =
     let q = patternAt d p in
     let m = matchOf (portEnabled d p) q before (seenAt d p) in
     let off : d .config ≡ 0 → m ≡ false = λ c. match-off (portEnabled d p) q before (seenAt d p) (port-off d p l c) in
-    event-base (withPattern d p (withPmf q m)) (ofPort p) (q .ioe) (m && not (q .pmf))
+    event-base (withPattern d p (withPmf q m)) (ofPort p) (hidesBy q) (eventBy q (q .pmf) m)
     (base-pattern d p (withPmf q m) h (λ x. x) (settings-kept refl refl) (λ c. cleared-pattern d p (withPmf q m) c (pmf-blank q m (off (c .config)))))
     (λ c. simp (off (c .config)))
 

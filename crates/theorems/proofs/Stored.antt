@@ -4,7 +4,7 @@
 use Prim.Native.Nat.{ℕ, _+_}
 use mathlib.Core.Path.{_≡_, refl, sym, ap, _∙_}
 use mathlib.Core.Bool.{Bool, true, false, not, cond, and-true, true≢false}
-use mathlib.Core.List.{List, [], _∷_}
+use mathlib.Core.List.{List}
 use mathlib.Core.Logic.{_↔_}
 use native.Mathlib.Omega.{arith}
 use lib.Dec.{eqb}
@@ -21,8 +21,9 @@ use Rattle.rules.specs.Step.{clockOf, ranOf}
 use Rattle.basics.specs.Iterate.{iterate}
 use Rattle.rules.specs.Sound.{soundButLines, soundLines, soundOf}
 use Rattle.rules.specs.Events.{relit, answerOf, unsoundAnswer, outcomeOf, eventOf}
-use Rattle.theorems.specs.Traces.{recordAfter}
+use Rattle.theorems.specs.Traces.{nextOf, recordAfter}
 use Rattle.basics.proofs.Iterate.{iterate-commutes}
+use Rattle.basics.proofs.Runs.{list-kept}
 use Rattle.basics.proofs.Tests.{right, not-so, never}
 use Rattle.theorems.proofs.Equal.{same-lines}
 use Rattle.theorems.proofs.Refusals.{ways, unsound, code-9}
@@ -66,9 +67,7 @@ unfolding outcomeOf relit
 kept d e t = ways d e (λ (o : Outcome). o .device .lines ≡ linesOf (o .device)) (λ _. t) (λ _. relined-true _) (λ _. t)
 
 kept-by-all : (d : Device) (es : List Event) → d .lines ≡ linesOf d → recordAfter d es .lines ≡ linesOf (recordAfter d es)
-unfolding recordAfter
-kept-by-all d [] t = t
-kept-by-all d (e ∷ es) t = kept-by-all (eventOf d e .device) es (kept d e t)
+kept-by-all = list-kept nextOf (λ (d : Device). d .lines ≡ linesOf d) kept
 
 pub lines-true : (d : Device) (e : Event) → soundOf d ≡ true → eventOf d e .device .lines ≡ linesOf (eventOf d e .device)
 lines-true d e s = kept d e (sound-lines d s)

@@ -3,7 +3,7 @@
 use Prim.Native.Nat.{ℕ, _+_, _*_, _/_, _<_}
 use mathlib.Core.Path.{_≡_, refl, ap, subst, _∙_}
 use mathlib.Core.Bool.{Bool, true, false, not, _&&_, _||_, So}
-use mathlib.Core.List.{List, [], _∷_}
+use mathlib.Core.List.{List}
 use native.Mathlib.Omega.{arith}
 use lib.Dec.{eqb}
 use borrow.Author.Tests.{lt-ltb, ltb-false, le-ltb, ne-eqb}
@@ -29,7 +29,8 @@ use Rattle.rules.specs.Events.{isX, isW, isR, isP, isT, isK, unknown, noRegiste
 use Rattle.rules.specs.Events.{writeEffect, readEffect, outsideSet, pinsEffect, clocksEffect, acknowledgeEffect, ieiEffect, effectOf, relit, outcomeOf, eventOf}
 use Rattle.basics.proofs.Tests.{left, never, by-test}
 use Rattle.basics.proofs.Places.{each2}
-use Rattle.theorems.specs.Traces.{recordAfter}
+use Rattle.basics.proofs.Runs.{list-kept}
+use Rattle.theorems.specs.Traces.{nextOf, recordAfter}
 use Rattle.theorems.specs.Used.{of}
 use Rattle.theorems.proofs.Clauses.{sound-parts}
 use Rattle.theorems.proofs.Refusals.{ways, code-is}
@@ -114,9 +115,7 @@ version-kept d e = ways d e (λ (o : Outcome). o .device .version ≡ d .version
 
 -- and so do any events, one after another
 pub list-version : (d : Device) (l : List Event) → recordAfter d l .version ≡ d .version
-unfolding recordAfter
-list-version d [] = refl
-list-version d (e ∷ l) = list-version (eventOf d e .device) l ∙ version-kept d e
+list-version d l = list-kept nextOf (λ (e : Device). e .version ≡ d .version) (λ e x q. version-kept e x ∙ q) d l refl
 
 -- ---- a sound device of version 1 has no pulse and no port with handshake
 no-pulse-by : (v e b : Bool) → (So b → So (v && e)) → v ≡ false → b ≡ false
@@ -130,14 +129,14 @@ none-of : (a b : Bool) → (a || b) ≡ false → a ≡ false
 none-of true b h = h
 none-of false b h = refl
 
-no-handshake-by : (n m : ℕ) (b : Bool) → (laterPortMode n m || b) ≡ false → n ≡ 1 → (eqb (m / 64) 1 || eqb (m / 64) 2) ≡ false
+no-handshake-by : (n m : ℕ) (b c : Bool) → (laterPortMode n m || b || c) ≡ false → n ≡ 1 → (eqb (m / 64) 1 || eqb (m / 64) 2) ≡ false
 unfolding laterPortMode
-no-handshake-by n m b h v =
-    let l = ltb-false 0 (m / 64) (none-of _ _ (none-of _ _ (none-of _ b (subst (λ (n : ℕ). (laterPortMode n m || b) ≡ false) v h)))) in
+no-handshake-by n m b c h v =
+    let l = ltb-false 0 (m / 64) (none-of _ _ (none-of _ _ (none-of _ b (none-of _ c (subst (λ (n : ℕ). (laterPortMode n m || b || c) ≡ false) v h))))) in
     simp (ne-eqb (m / 64) 1 (λ e. omega arith), ne-eqb (m / 64) 2 (λ e. omega arith))
 
 pub no-handshake : (d : Device) (p : ℕ) → p < 2 → soundOf d ≡ true → d .version ≡ 1 → handshakes (patternAt d p) ≡ false
-no-handshake d p h s v = no-handshake-by (d .version) _ _ (sound-parts d s .base .modes p h) v
+no-handshake d p h s v = no-handshake-by (d .version) _ _ _ (sound-parts d s .base .modes p h) v
 
 -- and refuses to have one: W 20H or 28H with D7-D6 not 00 is refused with 4
 pub handshake-refused : (d : Device) (p b : ℕ) → p < 2 → b < 256 → 0 < b / 64 → d .version ≡ 1 → reset d ≡ false → soundOf d ≡ true

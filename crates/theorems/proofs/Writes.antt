@@ -2,7 +2,7 @@
 -- Assumes nothing.
 use Prim.Native.Nat.{ℕ, _/_, _<_}
 use mathlib.Core.Path.{_≡_, refl, sym, ap, subst}
-use mathlib.Core.Bool.{Bool, true, false, not, _&&_, _||_, cond, So}
+use mathlib.Core.Bool.{Bool, true, false, not, _&&_, _||_, cond, So, and-false}
 use mathlib.Core.List.{[], _∷_}
 use native.Mathlib.Omega.{arith}
 use lib.Dec.{eqb, ltb, lit<}
@@ -18,8 +18,8 @@ use Rattle.rules.specs.declared.Kind.the-variants.{Data, Current, Constant, Cou
 use Rattle.basics.specs.Byte.{bit, withByte}
 use Rattle.rules.specs.Record.{Shaped, portAt, patternAt, transferAt, counterAt, sourceAt, quiet, idle, bare, blank, vacant, ofPort, ofCounter, resetOf}
 use Rattle.rules.specs.With.{withMaster, withVector, withPort, withPattern, withTransfer, withCounter, withIoe, withPair, withPortMode, withHandshake}
-use Rattle.rules.specs.With.{withPolarity, withDirection, withSpecial, withConstant, withMode, withOutside}
-use Rattle.rules.specs.Registers.{reset, portOn, portEnabled, counterOn, counterEnabled, kept, commanded, laterConfig, laterPortMode, laterHandshake, laterCounterMode}
+use Rattle.rules.specs.With.{withPolarity, withDirection, withSpecial, withTransition, withConstant, withMode, withOutside}
+use Rattle.rules.specs.Registers.{reset, portOn, portEnabled, counterOn, counterEnabled, kept, commanded, laterConfig, laterPortMode, laterHandshake, laterPriority, laterCounterMode}
 use Rattle.rules.specs.Counters.{commandedBy}
 use Rattle.rules.specs.Handshakes.{outputs, oreAt}
 use Rattle.rules.specs.PortData.{directionAt, putOf, writtenData}
@@ -62,8 +62,8 @@ quiet-sound = record { err = λ p. p; hidden = λ p. p }
 
 -- a bit port is of either version
 blank-now : (n : ℕ) → laterPort n blank ≡ false
-unfolding laterPortMode laterHandshake
-blank-now n = simp (le-ltb (cond (eqb n 1) 0 2) 0 (omega arith))
+unfolding laterPortMode laterHandshake laterPriority
+blank-now n = simp (le-ltb (cond (eqb n 1) 0 2) 0 (omega arith), and-false)
 
 pub reset-base : (d : Device) → Version (d .version) → portAt d 2 .outside < 16 → Base (resetOf d)
 unfolding resetOf laterConfig
@@ -138,9 +138,16 @@ with-room false r w h = never refl w
 no-port : (p i : ℕ) → ofPort p ≡ ofCounter i → ⊥
 no-port p i e = omega arith
 
-neither : (a b c : Bool) → (a || b) ≡ false → c ≡ false → (a || c) ≡ false
-neither true b c h g = h
-neither false b c h g = g
+-- the third of three settings anew, and the second
+third-anew : (a b c x : Bool) → (a || b || c) ≡ false → x ≡ false → (a || b || x) ≡ false
+third-anew true b c x h g = h
+third-anew false true c x h g = h
+third-anew false false c x h g = g
+
+second-anew : (a b c x : Bool) → (a || b || c) ≡ false → x ≡ false → (a || x || c) ≡ false
+second-anew true b c x h g = h
+second-anew false true c x h g = never h refl
+second-anew false false c x h g = simp (h, g)
 
 module _ (d : Device) (h : Base d) (z : reset d ≡ false) where
   config-base : (b : ℕ) → laterConfig b ≡ false → Base (configWritten d b)
@@ -189,8 +196,9 @@ module _ (d : Device) (h : Base d) (z : reset d ≡ false) where
   counter-base i c f = base-counter d i c h f (awake z)
 
   -- a pattern with the port's mode and handshake as they are
-  pattern-base : (p : ℕ) (q : Pattern) → q .mode ≡ patternAt d p .mode → q .handshake ≡ patternAt d p .handshake → Base (withPattern d p q)
-  pattern-base p q m n = base-pattern d p q h (λ x. simp (m, n) x) (settings-kept m n) (awake z)
+  pattern-base : (p : ℕ) (q : Pattern) → (laterPort (d .version) (patternAt d p) ≡ false → laterPort (d .version) q ≡ false)
+      → q .mode ≡ patternAt d p .mode → q .handshake ≡ patternAt d p .handshake → Base (withPattern d p q)
+  pattern-base p q f m n = base-pattern d p q h f (settings-kept m n) (awake z)
 
   -- and a port set up anew, which holds nothing
   emptied : (p : ℕ) → Base (withTransfer d p vacant)
@@ -257,8 +265,10 @@ module _ (d : Device) (h : Base d) (z : reset d ≡ false) where
   written-base s (CounterMode i) b l f = counter-base i (withMode (counterAt d i) b) (mode-sound (counterAt d i) b l)
   written-base s CurrentVector b l f = h
   written-base s (PortMode p) b l f = set-up-base p (withPortMode (patternAt d p) b) (λ _. l)
-  written-base s (Handshake p) b l f = set-up-base p (withHandshake (patternAt d p) b) (λ m. neither (laterPortMode (d .version) (patternAt d p .mode)) _ _ m l)
-  written-base s (PatternPolarity p) b l f = pattern-base p _ refl refl
-  written-base s (Transition p) b l f = pattern-base p _ refl refl
-  written-base s (Mask p) b l f = pattern-base p _ refl refl
+  written-base s (Handshake p) b l f = set-up-base p (withHandshake (patternAt d p) b) (λ m. second-anew (laterPortMode (d .version) (patternAt d p .mode)) _ _ _ m l)
+  written-base s (PatternPolarity p) b l f = pattern-base p _ (λ m. m) refl refl
+  written-base s (Transition p) b l f =
+      pattern-base p (withTransition (patternAt d p) b)
+      (λ m. third-anew (laterPortMode (d .version) (patternAt d p .mode)) (laterHandshake (patternAt d p .mode) (patternAt d p .handshake)) _ _ m l) refl refl
+  written-base s (Mask p) b l f = pattern-base p _ (λ m. m) refl refl
   written-base s Absent b l f = h

@@ -44,9 +44,9 @@ unfoldable pub countAfter : ℕ → ℕ → ℕ → ℕ
 countAfter c t k = cond (ltb k c) (c - k) (t - (k - c) % t)
 
 -- ---- "lost terminals for counters 1 to 3" (paper 02, W-202): the terminals less the free places of the counter's source, not under 0
--- (docs/DECISIONS.md, V10). Two places are free with IP 0, one with IP 1 alone, none with ERR or the hidden error.
+-- (docs/DECISIONS.md, V10). One place is free with IP 0, and one with neither ERR nor the hidden error.
 unfoldable pub freePlaces : Source → ℕ
-freePlaces s = if not (s .ip) then 2 else if s .err || s .hidden then 0 else 1
+freePlaces s = num (not (s .ip)) + num (not (s .err || s .hidden))
 
 -- how many of n terminals the source loses
 unfoldable pub lostAfter : Source → ℕ → ℕ

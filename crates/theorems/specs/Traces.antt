@@ -1,35 +1,37 @@
 -- Events one after the other, each in the record that the one before it left.
 -- Assumes nothing.
-use mathlib.Core.List.{List, [], _∷_, _++_}
+use mathlib.Core.List.{List}
+use Rattle.basics.specs.Runs.{Course, recordThrough, answersThrough, courseOf, courseOn, courseCut}
 use Rattle.rules.specs.declared.Device.{Device}
 use Rattle.rules.specs.declared.Event.{Event}
 use Rattle.rules.specs.declared.Answer.{Answer}
 use Rattle.rules.specs.Events.{eventOf}
 
--- their answers, and the record at the end
-unfoldable pub answersOf : Device → List Event → List Answer
-answersOf d [] = []
-answersOf d (e ∷ l) = eventOf d e .answer ∷ answersOf (eventOf d e .device) l
+-- the record after an event, and its answer
+abbrev pub nextOf : Device → Event → Device
+nextOf d e = eventOf d e .device
 
-unfoldable pub recordAfter : Device → List Event → Device
-recordAfter d [] = d
-recordAfter d (e ∷ l) = recordAfter (eventOf d e .device) l
+abbrev pub answerTo : Device → Event → Answer
+answerTo d e = eventOf d e .answer
+
+-- the answers to a list of events, and the record at the end
+abbrev pub answersOf : Device → List Event → List Answer
+answersOf = answersThrough nextOf answerTo
+
+abbrev pub recordAfter : Device → List Event → Device
+recordAfter = recordThrough nextOf
 
 -- both
-pub record Traced : Type 0 where
-  pub answers : List Answer
-  pub device : Device
+abbrev pub Traced : Type 0
+Traced = Course Answer Device
 
 abbrev pub tracedOf : Device → List Event → Traced
-tracedOf d l = record { answers = answersOf d l; device = recordAfter d l }
+tracedOf = courseOf nextOf answerTo
 
 -- a trace, and then more events
 abbrev pub followedBy : Traced → List Event → Traced
-followedBy t l = record { answers = t .answers ++ answersOf (t .device) l; device = recordAfter (t .device) l }
+followedBy = courseOn nextOf answerTo
 
 -- a list of events cut into a first part and others, where f is done to the record at each cut (a save and its restore)
-unfoldable pub cutBy : (Device → Device) → Device → List Event → List (List Event) → Traced
-cutBy f d l [] = tracedOf d l
-cutBy f d l (m ∷ ms) =
-    let rest = cutBy f (f (recordAfter d l)) m ms in
-    record { answers = answersOf d l ++ rest .answers; device = rest .device }
+abbrev pub cutBy : (Device → Device) → Device → List Event → List (List Event) → Traced
+cutBy = courseCut nextOf answerTo

@@ -10,7 +10,6 @@ use lib.ListN.{length, getD, length-append}
 use Rattle.basics.specs.Signs.{if_then_else_, _==_}
 use Rattle.rules.specs.declared.Counter.{Counter}
 use Rattle.rules.specs.declared.Device.{Device}
-use Rattle.rules.specs.declared.Pattern.{Pattern}
 use Rattle.rules.specs.declared.Source.{Source}
 use Rattle.rules.specs.declared.Transfer.{Transfer}
 use Rattle.rules.specs.Record.{patternAt, transferAt, sourceAt}
@@ -19,7 +18,7 @@ use Rattle.texts.specs.Kept.{textRoom, noText, typed, bytesOf}
 use Rattle.texts.proofs.Keeping.{bytes-line}
 use Rattle.texts.specs.Spelled.{spelled}
 use Rattle.words.specs.Cells.{bitCell, yesCell, byteCell, numberCell}
-use Rattle.words.specs.Shown.{named, versionLine, masterLine, linkLine, portLabels, portCell, portLine, patternLabels, patternMode}
+use Rattle.words.specs.Shown.{named, versionLine, masterLine, linkLine, portLabels, portCell, portLine, patternLabels, priorityCell, patternMode}
 use Rattle.words.specs.Shown.{patternCell, patternLine, counterLabels, modeCell, againCell, countsCell, halfCell, frozenCell, counterCell}
 use Rattle.words.specs.Shown.{counterColumn, counterLine, sourceLabels, sourceCell, sourceLine, levelsLine, requestLine, acknowledgeLine}
 use Rattle.words.specs.Shown.{headLine, tailLine, firstPort, firstPattern, counterHead, firstCounter, sourceHead, firstSource}
@@ -58,14 +57,22 @@ port-cell d p row =
     (pick 12 (row == 4) _ _ (byte-cell _)
     (pick 12 (row == 5) _ _ (byte-cell _) (byte-cell _))))))
 
-pattern-mode : (mode : ℕ) → length (patternMode mode) ≤ 12
-unfolding patternMode spelled
-pattern-mode mode = pick 12 (mode / 2 % 4 == 1) _ _ (omega arith) (pick 12 (mode / 2 % 4 == 2) _ _ (omega arith) (omega arith))
+priority-cell : (m : Bool) (n : ℕ) → length (priorityCell m n) ≤ 12
+unfolding priorityCell spelled
+priority-cell m n = omega arith
 
-pattern-cell : (q : Pattern) (row : ℕ) → length (patternCell q row) ≤ 12
+pattern-mode : (d : Device) (p : ℕ) → length (patternMode d p) ≤ 12
+unfolding patternMode spelled
+pattern-mode d p =
+    let m = patternAt d p .mode / 2 % 4 in
+    pick 12 (m == 1) _ _ (omega arith)
+    (pick 12 (m == 2) _ _ (omega arith)
+    (pick 12 (m == 3) _ _ (priority-cell _ _) (omega arith)))
+
+pattern-cell : (d : Device) (p row : ℕ) → length (patternCell d p row) ≤ 12
 unfolding patternCell
-pattern-cell q row =
-    pick 12 (row == 0) _ _ (pattern-mode _)
+pattern-cell d p row =
+    pick 12 (row == 0) _ _ (pattern-mode d p)
     (pick 12 (row == 1) _ _ (byte-cell _)
     (pick 12 (row == 2) _ _ (byte-cell _)
     (pick 12 (row == 3) _ _ (byte-cell _) (bit-cell _))))
@@ -170,7 +177,7 @@ pattern-line : (d : Device) (row : ℕ) → length (patternLine d row) ≤ textR
 unfolding patternLine
 pattern-line d row =
     simp length-append
-    (omega (arith, pattern-label row, pattern-cell (patternAt d 0) row, pattern-cell (patternAt d 1) row))
+    (omega (arith, pattern-label row, pattern-cell d 0 row, pattern-cell d 1 row))
 
 transfer-line : (d : Device) (row : ℕ) → length (transferLine d row) ≤ textRoom
 unfolding transferLine

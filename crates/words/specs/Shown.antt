@@ -7,7 +7,6 @@ use mathlib.Core.List.{List, [], _∷_, _++_}
 use lib.Dec.{ltb}
 use lib.ListN.{length, getD}
 use Rattle.rules.specs.declared.Counter.{Counter}
-use Rattle.rules.specs.declared.Pattern.{Pattern}
 use Rattle.rules.specs.declared.Source.{Source}
 use Rattle.rules.specs.declared.Transfer.{Transfer}
 use Rattle.rules.specs.declared.Device.{Device}
@@ -16,8 +15,9 @@ use Rattle.basics.specs.Signs.{if_then_else_, _==_}
 use Rattle.rules.specs.Record.{portAt, patternAt, transferAt, counterAt, sourceAt}
 use Rattle.rules.specs.Registers.{portEnabled, counterEnabled, lc}
 use Rattle.rules.specs.Counters.{continuous, outputEnabled, countInput, triggerInput, gateInput, retrigger, outputOf}
-use Rattle.rules.specs.PortData.{pinsAt}
-use Rattle.rules.specs.Interrupts.{requester, acknowledge}
+use Rattle.rules.specs.PortData.{pinsAt, seenAt}
+use Rattle.rules.specs.Patterns.{matchOf}
+use Rattle.rules.specs.Interrupts.{requester, acknowledge, highestAt}
 use Rattle.texts.specs.Answers.{lineFeed}
 use Rattle.texts.specs.Spelled.{spelled}
 use Rattle.words.specs.Cells.{bitCell, yesCell, byteCell, numberCell}
@@ -89,24 +89,29 @@ patternLabels =
     ∷ spelled "  mask          "
     ∷ spelled "PMF             " ∷ []
 
--- "AND (20H/28H D2-D1 = 01) .. OR (10)"
-unfoldable pub patternMode : ℕ → List ℕ
-patternMode mode =
-    if mode / 2 % 4 == 1 then spelled "         AND" else
-    if mode / 2 % 4 == 2 then spelled "          OR" else
+-- W-211: the highest of the bits that match, if one does
+unfoldable pub priorityCell : Bool → ℕ → List ℕ
+priorityCell matches n = spelled "  priority " ++ (if matches then 0x30 + n else 0x2D) ∷ []
+
+-- "AND (20H/28H D2-D1 = 01) .. OR (10)"; W-211: "OR with priority-encoded vector"
+unfoldable pub patternMode : Device → ℕ → List ℕ
+patternMode d p =
+    if patternAt d p .mode / 2 % 4 == 1 then spelled "         AND" else
+    if patternAt d p .mode / 2 % 4 == 2 then spelled "          OR" else
+    if patternAt d p .mode / 2 % 4 == 3 then priorityCell (matchOf (portEnabled d p) (patternAt d p) (seenAt d p) (seenAt d p)) (highestAt d p) else
     spelled "         off"
 
--- what stands beside each label, for a pattern
-unfoldable pub patternCell : Pattern → ℕ → List ℕ
-patternCell q row =
-    if row == 0 then patternMode (q .mode) else
-    if row == 1 then byteCell (q .polarity) else
-    if row == 2 then byteCell (q .transition) else
-    if row == 3 then byteCell (q .mask) else
-    bitCell (q .pmf)
+-- what stands beside each label, for the pattern of port p
+unfoldable pub patternCell : Device → ℕ → ℕ → List ℕ
+patternCell d p row =
+    if row == 0 then patternMode d p else
+    if row == 1 then byteCell (patternAt d p .polarity) else
+    if row == 2 then byteCell (patternAt d p .transition) else
+    if row == 3 then byteCell (patternAt d p .mask) else
+    bitCell (patternAt d p .pmf)
 
 unfoldable pub patternLine : Device → ℕ → List ℕ
-patternLine d row = getD patternLabels row [] ++ patternCell (patternAt d 0) row ++ patternCell (patternAt d 1) row ++ lineEnd
+patternLine d row = getD patternLabels row [] ++ patternCell d 0 row ++ patternCell d 1 row ++ lineEnd
 
 -- ---- what the handshakes of ports A and B hold
 abbrev pub transferLabels : List (List ℕ)

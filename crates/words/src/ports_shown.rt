@@ -1,8 +1,13 @@
 // The ports, a fact a line: its label, and a column for each port.
 ghost use mathlib.Core.Path.{_≡_};
 ghost use Prim.Native.Nat.{_<_};
+ghost use Rattle.rules.specs.Record.{patternAt};
+ghost use Rattle.rules.specs.Registers.{portEnabled};
+ghost use Rattle.rules.specs.PortData.{seenAt};
+ghost use Rattle.rules.specs.Patterns.{matchOf};
+ghost use Rattle.rules.specs.Interrupts.{highestAt};
 ghost use Rattle.texts.specs.Kept.{noText, typed};
-ghost use Rattle.words.specs.Shown.{portCell, portLine, patternMode, patternCell, patternLine, transferCell, transferLine};
+ghost use Rattle.words.specs.Shown.{portCell, portLine, priorityCell, patternMode, patternCell, patternLine, transferCell, transferLine};
 use crate::cells::bit_cell;
 use crate::cells::byte_cell;
 use crate::cells::label;
@@ -65,21 +70,43 @@ const PATTERN_LABELS: [[u8; 16]; PATTERN_ROWS] = [
     *b"PMF             ",
 ];
 
-fn pattern_mode(t: Text, mode: u8) -> Text
-    ensures { λ r. ⌜ r ≡ typed t (patternMode mode) ⌝ }
+// The highest matching bit, if one matches.
+fn priority_cell(t: Text, matches: bool, n: u8) -> Text
+    requires { ⌜ n < 8 ⌝ }
+    ensures { λ r. ⌜ r ≡ typed t (priorityCell matches n) ⌝ }
 {
-    match mode / 2 % 4 {
+    let digit = if matches { 0x30 + n } else { 0x2D };
+    push(word(t, b"  priority "), digit)
+}
+
+fn priority_mode(t: Text, d: Device, p: usize, q: Pattern) -> Text
+    requires { ⌜ q ≡ patternAt d p ⌝ }
+    ensures { λ r. ⌜ r ≡ typed t (priorityCell (matchOf (portEnabled d p) (patternAt d p) (seenAt d p) (seenAt d p)) (highestAt d p)) ⌝ }
+{
+    let enabled = levels::port_enabled(d, p);
+    let seen = levels::seen_at(d, p);
+    let m = step::matches(enabled, q, seen, seen);
+    priority_cell(t, m, ports::highest(enabled, q, seen))
+}
+
+fn pattern_mode(t: Text, d: Device, p: usize, q: Pattern) -> Text
+    requires { ⌜ q ≡ patternAt d p ⌝ }
+    ensures { λ r. ⌜ r ≡ typed t (patternMode d p) ⌝ }
+{
+    match q.mode / 2 % 4 {
         1 => word(t, b"         AND"),
         2 => word(t, b"          OR"),
+        3 => priority_mode(t, d, p, q),
         _ => word(t, b"         off"),
     }
 }
 
-fn pattern_cell(t: Text, q: Pattern, row: usize) -> Text
-    ensures { λ r. ⌜ r ≡ typed t (patternCell q row) ⌝ }
+fn pattern_cell(t: Text, d: Device, p: usize, q: Pattern, row: usize) -> Text
+    requires { ⌜ q ≡ patternAt d p ⌝ }
+    ensures { λ r. ⌜ r ≡ typed t (patternCell d p row) ⌝ }
 {
     match row {
-        0 => pattern_mode(t, q.mode),
+        0 => pattern_mode(t, d, p, q),
         1 => byte_cell(t, q.polarity),
         2 => byte_cell(t, q.transition),
         3 => byte_cell(t, q.mask),
@@ -93,8 +120,8 @@ pub(crate) fn pattern_line(d: Device, row: usize) -> Text
     let qa = d.patterns[0];
     let qb = d.patterns[1];
     let t = label(&PATTERN_LABELS, row);
-    let a = pattern_cell(t, qa, row);
-    push(pattern_cell(a, qb, row), b'\n')
+    let a = pattern_cell(t, d, 0, qa, row);
+    push(pattern_cell(a, d, 1, qb, row), b'\n')
 }
 
 const TRANSFER_LABELS: [[u8; 16]; TRANSFER_ROWS] = [

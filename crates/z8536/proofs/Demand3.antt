@@ -20,8 +20,9 @@ use Rattle.rules.specs.Interrupts.{relined}
 use Rattle.rules.specs.Sound.{soundOf}
 use Rattle.rules.specs.Events.{isT, relit, outcomeOf, unsoundAnswer, eventOf}
 use Rattle.basics.specs.Byte.{bit}
+use Rattle.basics.specs.Runs.{recordThrough, answersThrough}
 use Rattle.basics.proofs.Tests.{both, triple, by-test}
-use Rattle.theorems.specs.Traces.{answersOf, recordAfter, Traced, tracedOf}
+use Rattle.theorems.specs.Traces.{Traced, tracedOf}
 use Rattle.theorems.specs.Ticks.{onlyT, onlyT1, allClocks, answersAdded, answersAsOne, asOne}
 use Rattle.theorems.proofs.Soundness.{ran-relined}
 use Rattle.theorems.proofs.Frame.{frame-step}
@@ -31,14 +32,10 @@ use Rattle.theorems.proofs.Demand3.{ran, none as core-none, under-reset as core
 use Rattle.z8536.specs.declared.Z8536.{Z8536}
 use Rattle.z8536.specs.declared.OutcomeZ8536.{OutcomeZ8536}
 use Rattle.z8536.specs.Z8536.{soundZ8536, resetClear, accesses, points, ends, afterCore, noAddress, stands, accessed, eventZ8536}
-use Rattle.z8536.specs.Runs.{answersZ8536, recordZ8536, RunZ8536, runZ8536, cutZ8536}
+use Rattle.z8536.specs.Runs.{RunZ8536, runZ8536, cutZ8536, oneOf}
 use Rattle.z8536.proofs.Parts.{parts, whole, clear}
 use Rattle.z8536.proofs.Access.{reaches, itself}
 use Rattle.z8536.proofs.Runs.{unseen}
-
--- events one after the other as one: the record at the end, and their answers as one
-abbrev pub oneOf : RunZ8536 → OutcomeZ8536
-oneOf t = record { device = t .device; answer = answersAsOne (t .answers) }
 
 -- a core behind the pointer of a Z8536, and what came of its events
 abbrev pub behind : Z8536 → Device → Z8536
@@ -109,7 +106,7 @@ unsound z e s = simp s
 
 refused-run : (z : Z8536) (f : Event) (l : List Event) → soundZ8536 z ≡ false
     → oneOf (runZ8536 z (f ∷ l)) ≡ record { device = z; answer = unsoundAnswer }
-unfolding answersZ8536 recordZ8536 answersAsOne reportsAdded sums
+unfolding answersThrough recordThrough answersAsOne reportsAdded sums
 refused-run z f [] s = unsound z f s
 refused-run z f (g ∷ l) s =
     ap (λ (o : OutcomeZ8536). then (o .answer) (oneOf (runZ8536 (o .device) (g ∷ l)))) (unsound z f s)
@@ -121,7 +118,7 @@ refused-run z f (g ∷ l) s =
 -- T's one after the other are those of the core, so where one T is such in the core it is in the Z8536: of lists all of whose events are T
 module _ (only : List Event → Bool) (each : (e : Event) (l : List Event) → So (only (e ∷ l)) → So (isT e) × So (only l)) where
   runs : (z : Z8536) (l : List Event) → So (only l) → soundZ8536 z ≡ true → runZ8536 z l ≡ run z (tracedOf (z .core) l)
-  unfolding answersZ8536 recordZ8536 answersOf recordAfter
+  unfolding answersThrough recordThrough
   runs z [] h s = refl
   runs z (e ∷ l) h s =
       let t = each e l h in

@@ -2,7 +2,7 @@
 -- Assumes nothing.
 use mathlib.Core.Path.{_≡_, refl, sym, subst, _∙_}
 use mathlib.Core.Bool.{true, true≢false}
-use mathlib.Core.List.{List, [], _∷_}
+use mathlib.Core.List.{List}
 use lib.Dec.{lit<}
 use Rattle.rules.specs.declared.Device.{Device}
 use Rattle.rules.specs.declared.Event.{Event}
@@ -12,13 +12,14 @@ use Rattle.rules.specs.Registers.{reset}
 use Rattle.rules.specs.Sound.{soundOf}
 use Rattle.rules.specs.Events.{eventOf}
 use Rattle.basics.proofs.Tests.{not-so, by-test}
+use Rattle.basics.proofs.Runs.{list-kept}
 use Rattle.theorems.proofs.Soundness.{fresh-sound as fresh-core, event-sound as core-sound}
 use Rattle.theorems.proofs.Shapes.{fresh-shaped, event-shaped as core-shaped}
 use Rattle.theorems.proofs.Versions.{version-kept as core-version}
 use Rattle.z8536.specs.declared.Z8536.{Z8536}
 use Rattle.z8536.specs.declared.OutcomeZ8536.{OutcomeZ8536}
 use Rattle.z8536.specs.Z8536.{freshZ8536, resetClear, soundZ8536, atRegister, afterCore, stands, accessed, eventZ8536}
-use Rattle.z8536.specs.Runs.{recordZ8536}
+use Rattle.z8536.specs.Runs.{nextZ8536, recordZ8536}
 use Rattle.z8536.proofs.Parts.{parts, whole}
 use Rattle.z8536.proofs.Access.{ways, core-after, pointing-core, pointing-ways, pointed-sound}
 use Rattle.z8536.proofs.Codes.{code-is, code-9}
@@ -61,21 +62,21 @@ module _ (z : Z8536) (e : Event) where
       (λ _ _ p. pointing-ways z e (λ (o : OutcomeZ8536). soundZ8536 (o .device) ≡ true) (λ _. s) (λ _ _. s) (λ _ n. pointed-sound z e s p n))
       (λ _ _ _. after-sound (eventOf (z .core) f) s (core-sound (z .core) f k (part .core)) (core-version (z .core) f ∙ part .version))
 
--- any events, one after another
+-- any events, one after another, from a sound record of the device's shape
+abbrev pub Good : Z8536 → Type 0
+Good z = Shaped (z .core) × (soundZ8536 z ≡ true)
+
+pub event-good : (z : Z8536) (e : Event) → Good z → Good (nextZ8536 z e)
+event-good z e g = (event-shaped z e (g .0), event-sound z e (g .0) (g .1))
+
 pub list-shaped : (z : Z8536) (l : List Event) → Shaped (z .core) → Shaped (recordZ8536 z l .core)
-unfolding recordZ8536
-list-shaped z [] k = k
-list-shaped z (e ∷ l) k = list-shaped (eventZ8536 z e .device) l (event-shaped z e k)
+list-shaped = list-kept nextZ8536 (λ (z : Z8536). Shaped (z .core)) event-shaped
 
 pub list-sound : (z : Z8536) (l : List Event) → Shaped (z .core) → soundZ8536 z ≡ true → soundZ8536 (recordZ8536 z l) ≡ true
-unfolding recordZ8536
-list-sound z [] k s = s
-list-sound z (e ∷ l) k s = list-sound (eventZ8536 z e .device) l (event-shaped z e k) (event-sound z e k s)
+list-sound z l h s = list-kept nextZ8536 Good event-good z l (h, s) .1
 
 pub list-version : (z : Z8536) (l : List Event) → recordZ8536 z l .core .version ≡ z .core .version
-unfolding recordZ8536
-list-version z [] = refl
-list-version z (e ∷ l) = list-version (eventZ8536 z e .device) l ∙ version-kept z e
+list-version z l = list-kept nextZ8536 (λ (y : Z8536). y .core .version ≡ z .core .version) (λ y e q. version-kept y e ∙ q) z l refl
 
 -- so from the fresh device no event comes to code 9
 pub never-unsound : (l : List Event) (e : Event) → eventZ8536 (recordZ8536 freshZ8536 l) e .answer .code ≡ 9 → ⊥

@@ -1,38 +1,65 @@
-use mathlib.Core.Path.{_≡_, refl, _∙_}
-use native.Mathlib.Omega.{arith}
-use Rattle.clocks.specs.Chase.{endOf, Holds}
-use Rattle.clocks.proofs.Moments.{started, ended}
+use mathlib.Core.Path.{refl, sym, ap, _∙_}
+use Rattle.rules.specs.declared.Device.{Device}
+use Rattle.rules.specs.Record.{Shaped}
+use Rattle.rules.specs.Sound.{sameOf}
+use Rattle.rules.specs.Step.{catchers}
+use Rattle.basics.proofs.Lists.{length-mapped as of-map}
+use Rattle.theorems.proofs.Same.{same-is}
+use Rattle.theorems.proofs.Reports.{ran-held}
+use borrow.Author.Needs.{needs}
 use Rattle.clocks.proofs.run.Statement.{statement}
 use Rattle.clocks.proofs.run.Tie as tie
 
-abbrev Inv-loop : tie.InvT-loop
-Inv-loop n c₀ c = Holds c × (endOf c ≡ endOf c₀)
+-- the record has the parts of a Z8036, and with its catchers caught too
+shaped : (c : tie.Start) → Shaped (c .args .d)
+shaped c = record { vectors = search needs; ports = search of-map; patterns = search of-map; transfers = search of-map; counters = search of-map; sources = search of-map }
 
-abbrev μ-loop : tie.MeasureT-loop
-μ-loop n c₀ c = c .left
+caught-shaped : (d : Device) → Shaped d → Shaped (catchers d)
+unfolding catchers
+caught-shaped d h = record { vectors = h .vectors; ports = refl; patterns = h .patterns; transfers = h .transfers; counters = h .counters; sources = h .sources }
 
-loop-holds : tie.Need-loop-holds Inv-loop μ-loop
-loop-holds c = (started (c .args .n) (c .args .d) (omega arith), refl)
+reset-requires : tie.Need-reset-requires
+reset-requires c κs = search needs
 
-advanced-requires : tie.Need-advanced-requires Inv-loop μ-loop
-advanced-requires c κs = (c .before .before .loop .inv .0, c .if1 .taken)
+returns : tie.Need-returns
+returns c = sym (ran-held _ _ (sym (c .before .reset .ensures) ∙ c .if1 .taken))
 
-turned-requires : tie.Need-turned-requires Inv-loop μ-loop
-turned-requires c κs = (c .advanced .ensures .0 .holds, c .advanced .ensures .2)
+catch-all-requires : tie.Need-catch-all-requires
+catch-all-requires c κs = search needs
 
-loop-less : tie.Need-loop-less Inv-loop μ-loop
-loop-less c = omega (arith, c .before .advanced .ensures .1, c .turned .ensures .left)
+same-requires : tie.Need-same-requires
+same-requires c κs = search needs
 
-loop-again : tie.Need-loop-again Inv-loop μ-loop
-loop-again c = (
-  c .turned .ensures .holds,
-  c .turned .ensures .end ∙ c .before .advanced .ensures .0 .end ∙ c .before .before .before .before .loop .inv .1,
-)
+parts-requires : tie.Need-parts-requires
+parts-requires c κs =
+    let at-same = c .before in
+    let at-catch = at-same .before in
+    let at-if = at-catch .before in
+    let d = at-if .before .before .args .d in
+    let h = shaped (at-if .before .before) in
+    let e = ap (λ (f : Device). sameOf f d) (sym (at-catch .catch-all .ensures)) ∙ sym (at-same .same .ensures) ∙ c .if2 .taken in
+    (same-is (catchers d) d (caught-shaped d h) h e, sym (at-if .before .reset .ensures) ∙ at-if .if1 .left)
 
-returns : tie.Need-returns Inv-loop μ-loop
-returns c = ended _ _ _ (c .before .before .before .loop .inv .1) (omega (arith, c .before .if1 .left))
+returns-2 : tie.Need-returns-2
+returns-2 c = search needs
+
+catching-requires : tie.Need-catching-requires
+catching-requires c κs =
+    let at-if = c .before .before .before in
+    (sym (at-if .before .reset .ensures) ∙ at-if .if1 .left, refl)
+
+returns-3 : tie.Need-returns-3
+returns-3 c = search needs
 
 pub run-spec : {M : Type 1} → statement M
 run-spec =
     tie.close
-    (tie.spec Inv-loop μ-loop loop-holds advanced-requires turned-requires loop-less loop-again returns)
+    (tie.spec
+    reset-requires
+    returns
+    catch-all-requires
+    same-requires
+    parts-requires
+    returns-2
+    catching-requires
+    returns-3)

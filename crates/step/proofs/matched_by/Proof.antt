@@ -1,4 +1,5 @@
 use native.Mathlib.Nat.{mod-eq-of-lt}
+use Rattle.rules.specs.Patterns.{eventBy, hidesBy}
 use Rattle.rules.specs.Step.{matchedBy}
 use borrow.Author.Needs.{needs}
 use Rattle.step.proofs.matched_by.Statement.{statement}
@@ -23,10 +24,10 @@ event-at-requires : tie.Need-event-at-requires
 event-at-requires c κs = search needs
 
 returns : tie.Need-returns
-unfolding matchedBy
+unfolding matchedBy eventBy hidesBy
 returns c =
-    let at-place = c .before .before in
-    let at-start = at-place .before .before .before in
+    let at-place = c .before .before .before in
+    let at-start = at-place .before .before .before .before in
     simp (c .event-at .ensures, at-place .of-port .ensures, mod-eq-of-lt (at-start .pre))
 
 pub matched-by-spec : {M : Type 1} → statement M

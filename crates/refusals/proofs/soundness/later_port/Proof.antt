@@ -17,13 +17,26 @@ wide-requires-3 c κs = search needs
 later-handshake-requires : tie.Need-later-handshake-requires
 later-handshake-requires c κs = search needs
 
+wide-requires-4 : tie.Need-wide-requires-4
+wide-requires-4 c κs = search needs
+
+wide-requires-5 : tie.Need-wide-requires-5
+wide-requires-5 c κs = search needs
+
+later-priority-requires : tie.Need-later-priority-requires
+later-priority-requires c κs = search needs
+
 returns : tie.Need-returns
 returns c =
-    let at-mode = c .before .before .before in
+    let at-handshake = c .before .before .before in
+    let at-mode = at-handshake .before .before .before in
     simp (
-      c .later-handshake .ensures,
-      c .before .wide3 .ensures,
-      c .before .before .wide2 .ensures,
+      c .later-priority .ensures,
+      c .before .wide5 .ensures,
+      c .before .before .wide4 .ensures,
+      at-handshake .later-handshake .ensures,
+      at-handshake .before .wide3 .ensures,
+      at-handshake .before .before .wide2 .ensures,
       at-mode .later-port-mode .ensures,
       at-mode .before .wide .ensures,
     )
@@ -37,4 +50,7 @@ later-port-spec =
     wide-requires-2
     wide-requires-3
     later-handshake-requires
+    wide-requires-4
+    wide-requires-5
+    later-priority-requires
     returns)

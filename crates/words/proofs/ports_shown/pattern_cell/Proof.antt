@@ -25,21 +25,22 @@ returns c = simp (c .pattern-mode .ensures, c .before .match .keys1)
 
 returns-2 : tie.Need-returns-2
 unfolding patternCell
-returns-2 c = simp (c .byte-cell .ensures, c .before .match .keys2)
+returns-2 c = simp (← c .before .before .pre, c .byte-cell .ensures, c .before .match .keys2)
 
 returns-3 : tie.Need-returns-3
 unfolding patternCell
-returns-3 c = simp (c .byte-cell2 .ensures, c .before .match .keys3)
+returns-3 c = simp (← c .before .before .pre, c .byte-cell2 .ensures, c .before .match .keys3)
 
 returns-4 : tie.Need-returns-4
 unfolding patternCell
-returns-4 c = simp (c .byte-cell3 .ensures, c .before .match .keys4)
+returns-4 c = simp (← c .before .before .pre, c .byte-cell3 .ensures, c .before .match .keys4)
 
 returns-5 : tie.Need-returns-5
 unfolding patternCell
 returns-5 c =
     let other = c .before .match .rest in
     simp (
+      ← c .before .before .pre,
       c .bit-cell .ensures,
       ne-eqb _ _ (other .1),
       ne-eqb _ _ (other .0 .1),
