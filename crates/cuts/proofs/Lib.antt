@@ -1,3 +1,4 @@
 pub mod Night
 pub mod NightZ8536
+pub mod NightRow
 pub mod Account

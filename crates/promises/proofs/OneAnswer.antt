@@ -23,6 +23,10 @@ use Rattle.lines.specs.Pieces.{cutFrom}
 use Rattle.measure.specs.Measure.{measureStart, measuredOf, tableOf}
 use Rattle.phrases.specs.Refusals.{refusal, trouble}
 use Rattle.registers.specs.Place.{place}
+use Rattle.row_bridge.specs.Boards.{boarded}
+use Rattle.row_lines.specs.RowLines.{deviceText, headText, rowLine}
+use Rattle.row_visit.specs.Visits.{actingOf, lookingOf, visitOf}
+use Rattle.rows.specs.Rows.{rowAfter, rowAnswer}
 use Rattle.rules.specs.Access.{afterRead, readOf, writtenOf}
 use Rattle.rules.specs.Counters.{commandedBy, linkOf, outputOf, reachOf, turnOf}
 use Rattle.rules.specs.Events.{codeOf, eventOf}
@@ -39,7 +43,7 @@ use Rattle.rules.specs.With.{device}
 use Rattle.session.specs.Sessions.{answered, answersIn, answersLast, bytesRead, fedBy, finishedBy, startOf}
 use Rattle.theorems.specs.Alone.{aloneAfter, placedBy, struckBy}
 use Rattle.theorems.specs.Moving.{pairOf, pairedBy}
-use Rattle.texts.specs.Answers.{answerText, decimalText, glyphOf}
+use Rattle.texts.specs.Answers.{answerText, decimalText, glyphOf, levelsText}
 use Rattle.texts.specs.Kept.{bytesOf, noText, pushed, typed}
 use Rattle.words.specs.Shown.{pointerLine, shownLine}
 use Rattle.z8536.specs.Z8536.{eventZ8536, freshZ8536, soundZ8536}
@@ -50,6 +54,7 @@ use lib.Dec.{ltb}
 use Rattle.rules.specs.declared.Answer.{Answer}
 use Rattle.rules.specs.declared.Device.{Device}
 use Rattle.rules.specs.declared.Lines.{Lines}
+use Rattle.rows.specs.declared.RowAnswer.{RowAnswer}
 use Rattle.session.specs.declared.Fed.{Fed}
 use Rattle.session.specs.declared.Told.{Told}
 use Rattle.rules.proofs.Source.of_port as rules·Source-of-port
@@ -62,6 +67,15 @@ use Rattle.event.proofs.event as event·event
 use Rattle.inplace.proofs.event_in_place as inplace·event-in-place
 use Rattle.inplace.proofs.lines as inplace·lines
 use Rattle.bridge.proofs.through as bridge·through
+use Rattle.row_visit.proofs.visit as row-visit·visit
+use Rattle.row_visit.proofs.looking as row-visit·looking
+use Rattle.row_visit.proofs.acting as row-visit·acting
+use Rattle.row.proofs.event as row·event
+use Rattle.row_bridge.proofs.event as row-bridge·event
+use Rattle.row_lines.proofs.event_of_line as row-lines·event-of-line
+use Rattle.row_lines.proofs.head_text as row-lines·head-text
+use Rattle.row_lines.proofs.device_text as row-lines·device-text
+use Rattle.texts.proofs.levels as texts·levels
 use Rattle.image.proofs.save as image·save
 use Rattle.image.proofs.restore as image·restore
 use Rattle.z8536.proofs.Z8536.fresh as z8536·Z8536-fresh
@@ -207,6 +221,36 @@ module _ {M : Type 1} (𝓤 : URA M) where
 
   pub bridge-through : OneResult 𝓤 bridge·through.ended (bridge·through.clauses 𝓤)
   bridge-through = one-result 𝓤 bridge·through.ended (bridge·through.clauses 𝓤) (λ κs a. eventOf (a .0) (a .1 .0)) refl
+
+  pub row-event : OneAnswer 𝓤 row·event.ended (row·event.clauses 𝓤) (λ κs. RowAnswer × List Device) (λ κs r x. (r, now (x .0)))
+  row-event =
+      one-answer 𝓤 row·event.ended (row·event.clauses 𝓤) (λ κs. RowAnswer × List Device) (λ κs r x. (r, now (x .0)))
+      (λ κs a. (rowAnswer (now (a .0)) (a .1 .0), rowAfter (now (a .0)) (a .1 .0)))
+      (λ H A at-mem run κs a g r x. fact-mono 𝓤 _ _ (λ p i. (p .0 i, p .1 i)))
+
+  pub row-bridge-event : OneResult 𝓤 row-bridge·event.ended (row-bridge·event.clauses 𝓤)
+  row-bridge-event = one-result 𝓤 row-bridge·event.ended (row-bridge·event.clauses 𝓤) (λ κs a. boarded (a .0) (a .1 .0) (a .1 .1 .0)) refl
+
+  pub row-visit-visit : OneResult 𝓤 row-visit·visit.ended (row-visit·visit.clauses 𝓤)
+  row-visit-visit = one-result 𝓤 row-visit·visit.ended (row-visit·visit.clauses 𝓤) (λ κs a. visitOf (a .0) (a .1 .0)) refl
+
+  pub row-visit-looking : OneResult 𝓤 row-visit·looking.ended (row-visit·looking.clauses 𝓤)
+  row-visit-looking = one-result 𝓤 row-visit·looking.ended (row-visit·looking.clauses 𝓤) (λ κs a. lookingOf (a .0)) refl
+
+  pub row-visit-acting : OneResult 𝓤 row-visit·acting.ended (row-visit·acting.clauses 𝓤)
+  row-visit-acting = one-result 𝓤 row-visit·acting.ended (row-visit·acting.clauses 𝓤) (λ κs a. actingOf (a .0)) refl
+
+  pub row-lines-event-of-line : OneResult 𝓤 row-lines·event-of-line.ended (row-lines·event-of-line.clauses 𝓤)
+  row-lines-event-of-line = one-result 𝓤 row-lines·event-of-line.ended (row-lines·event-of-line.clauses 𝓤) (λ κs a. rowLine (a .0)) refl
+
+  pub row-lines-head-text : OneResult 𝓤 row-lines·head-text.ended (row-lines·head-text.clauses 𝓤)
+  row-lines-head-text = one-result 𝓤 row-lines·head-text.ended (row-lines·head-text.clauses 𝓤) (λ κs a. typed noText (headText (a .0))) refl
+
+  pub row-lines-device-text : OneResult 𝓤 row-lines·device-text.ended (row-lines·device-text.clauses 𝓤)
+  row-lines-device-text = one-result 𝓤 row-lines·device-text.ended (row-lines·device-text.clauses 𝓤) (λ κs a. typed noText (deviceText (a .0))) refl
+
+  pub texts-levels : OneResult 𝓤 texts·levels.ended (texts·levels.clauses 𝓤)
+  texts-levels = one-result 𝓤 texts·levels.ended (texts·levels.clauses 𝓤) (λ κs a. typed (a .0) (levelsText (a .1 .0))) refl
 
   pub image-save : OneAnswer 𝓤 image·save.ended (image·save.clauses 𝓤) (λ κs. ℕ × List ℕ) (λ κs r x. (r, now (x .1 .0)))
   image-save =

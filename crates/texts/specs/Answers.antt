@@ -63,6 +63,10 @@ countsText ns = countText (getD ns 0 0) ++ countText (getD ns 1 0) ++ countText 
 unfoldable pub reportText : Report → List ℕ
 reportText r = countsText (r .terminals) ++ countsText (r .lost)
 
+-- pins, INT, IEO and the report alone; paper 02, W-212: of each device of a row
+unfoldable pub levelsText : Answer → List ℕ
+levelsText a = hexText (a .a) ++ hexText (a .b) ++ nibbleText (a .c) ++ flagText (a .int) ++ flagText (a .ieo) ++ reportText (a .report)
+
 -- ---- the answer, with its line feed
 unfoldable pub answerText : Answer → List ℕ
 answerText a =

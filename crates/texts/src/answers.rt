@@ -4,7 +4,7 @@ ghost use mathlib.Core.Bool.{cond};
 ghost use Prim.Native.Nat.{_+_, _<_};
 ghost use lib.ListN.{length};
 ghost use Rattle.texts.specs.Kept.{noText, typed, bytesOf};
-ghost use Rattle.texts.specs.Answers.{glyphOf, hexText, nibbleText, flagText, placeText, decimalText, countText, countsText, reportText, answerText};
+ghost use Rattle.texts.specs.Answers.{glyphOf, hexText, nibbleText, flagText, placeText, decimalText, countText, countsText, reportText, levelsText, answerText};
 ghost use Rattle.basics.specs.Buffer.{fits, laidOf};
 use crate::Text;
 use crate::kept::kept_len;
@@ -92,6 +92,15 @@ fn report(t: Text, r: Report) -> Text
     let terminals = r.terminals;
     let lost = r.lost;
     counts(counts(t, terminals), lost)
+}
+
+// The pins, INT, IEO and the report of an answer, after what t holds.
+pub fn levels(t: Text, a: Answer) -> Text
+    ensures { λ r. ⌜ r ≡ typed t (levelsText a) ⌝ }
+{
+    let r = a.report;
+    let pins = nibble(hex(hex(t, a.a), a.b), a.c);
+    report(flag(flag(pins, a.int), a.ieo), r)
 }
 
 // The line of an answer, with its line feed.

@@ -6,6 +6,7 @@ pub use answers::answer_text;
 pub use answers::decimal;
 pub use answers::glyph;
 pub use answers::lay;
+pub use answers::levels;
 pub use kept::no_text;
 pub use kept::push;
 

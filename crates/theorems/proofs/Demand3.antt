@@ -134,14 +134,14 @@ cut-apart f leaves d e g l ls h s t o q =
     cut d e g (l ++ flatten ls) t o q ∙ ap asOne (sym (unseen f leaves d (g ∷ l) ls h s))
 
 -- ---- events that are all T 1
-ones-only : (l : List Event) → So (onlyT1 l) → So (onlyT l)
+pub ones-only : (l : List Event) → So (onlyT1 l) → So (onlyT l)
 unfolding onlyT onlyT1
 ones-only [] h = h
 ones-only (e ∷ l) h =
     let t = left (isT e && eqb (e .a) 1) (onlyT1 l) h in
     so-both (left (isT e) (eqb (e .a) 1) t) (ones-only l (right (isT e && eqb (e .a) 1) (onlyT1 l) h))
 
-ones-clocks : (l : List Event) → So (onlyT1 l) → allClocks l ≡ length l
+pub ones-clocks : (l : List Event) → So (onlyT1 l) → allClocks l ≡ length l
 unfolding allClocks onlyT1
 ones-clocks [] h = refl
 ones-clocks (e ∷ l) h =
