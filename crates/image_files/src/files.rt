@@ -4,10 +4,12 @@ ghost use mathlib.Core.Bool.{true, false};
 ghost use mathlib.Core.Path.{_≡_};
 ghost use Rattle.io.specs.Counts.{Counts};
 ghost use Rattle.chip.specs.Chips.{soundChip};
-ghost use Rattle.image_files.specs.Files.{isDash, isDashZ8536, freshLoaded, freshLoadedZ8536};
+ghost use Rattle.ctc_rules.specs.Sound.{soundCtc};
+ghost use Rattle.image_files.specs.Files.{isDash, isDashZ8536, isDashCtc, loadedChip, loadedCtc, freshLoaded, freshLoadedZ8536, freshLoadedCtc};
 use crate::Loaded;
 use chip::Chip;
 use console::print;
+use ctc_rules::Ctc;
 use rules::Device;
 use texts::Text;
 use z8536::Z8536;
@@ -44,29 +46,32 @@ pub(crate) fn trouble(report: i32, path: &[u8], writing: bool) {
     say(report, path, phrases::trouble_line(writing, why(error)));
 }
 
-fn fresh() -> Loaded
-    ensures { λ r. ⌜ r ≡ freshLoaded ⌝ }
+fn of_chip(d: Chip) -> Loaded
+    ensures { λ r. ⌜ r ≡ loadedChip d ⌝ }
 {
     Loaded {
-        device: Chip::of_z8036(Device::fresh()),
+        device: d,
+        ctc: Ctc::fresh(),
+        is_ctc: false,
         ok: true,
     }
 }
 
-fn fresh_z8536() -> Loaded
-    ensures { λ r. ⌜ r ≡ freshLoadedZ8536 ⌝ }
+fn of_ctc(d: Ctc) -> Loaded
+    ensures { λ r. ⌜ r ≡ loadedCtc d ⌝ }
 {
     Loaded {
-        device: Chip::of_z8536(Z8536::fresh()),
+        device: Chip::of_z8036(Device::fresh()),
+        ctc: d,
+        is_ctc: true,
         ok: true,
     }
 }
 
 fn none() -> Loaded {
-    Loaded {
-        device: Chip::of_z8036(Device::fresh()),
-        ok: false,
-    }
+    let mut l = of_ctc(Ctc::fresh());
+    l.ok = false;
+    l
 }
 
 // Nothing came of a file: whether it is empty, which a further read tells from a failure.
@@ -84,6 +89,23 @@ fn image_len_by(first: u8) -> u32 {
     }
 }
 
+// The first byte of a CTC's image.
+const CTC_FIRST: u8 = 0x11;
+
+// The CTC of an image.
+fn restore_ctc(s: &[u8], path: &[u8], report: i32) -> Loaded {
+    let r = ctc_image::restore(s);
+    if r.code != 0 {
+        say(
+            report,
+            path,
+            phrases::refusal_line(r.code, Ctc::IMAGE as u32, s.len()),
+        );
+        return none();
+    }
+    of_ctc(r.device)
+}
+
 // The device of an open file. One byte more is read than the longest image has: then a longer file is refused too.
 fn restore_from(fd: i32, path: &[u8], report: i32) -> Loaded {
     let mut buf = [0u8; Z8536::IMAGE + 1];
@@ -94,6 +116,9 @@ fn restore_from(fd: i32, path: &[u8], report: i32) -> Loaded {
             return none();
         }
     }
+    if buf[0] == CTC_FIRST {
+        return restore_ctc(&buf[..n], path, report);
+    }
     let r = chip_image::restore(&buf[..n]);
     if r.code != 0 {
         say(
@@ -103,23 +128,23 @@ fn restore_from(fd: i32, path: &[u8], report: i32) -> Loaded {
         );
         return none();
     }
-    let d = r.device;
-    Loaded {
-        device: d,
-        ok: true,
-    }
+    of_chip(r.device)
 }
 
-// The device of an image file; `-` names the fresh Z8036, `-z8536` the fresh Z8536.
+// The device of an image file; `-` names the fresh Z8036, `-z8536` the fresh Z8536, `-ctc` the fresh CTC.
 pub fn load(path: &[u8], report: i32) -> Loaded
     ensures { λ r. ⌜ (isDash (now (path .entry)) ≡ true → r ≡ freshLoaded) ⌝ }
     ensures { λ r. ⌜ (isDashZ8536 (now (path .entry)) ≡ true → r ≡ freshLoadedZ8536) ⌝ }
+    ensures { λ r. ⌜ (isDashCtc (now (path .entry)) ≡ true → r ≡ freshLoadedCtc) ⌝ }
 {
     if image::same_bytes(path, b"-") {
-        return fresh();
+        return of_chip(Chip::of_z8036(Device::fresh()));
     }
     if image::same_bytes(path, b"-z8536") {
-        return fresh_z8536();
+        return of_chip(Chip::of_z8536(Z8536::fresh()));
+    }
+    if image::same_bytes(path, b"-ctc") {
+        return of_ctc(Ctc::fresh());
     }
     let fd = os::open_read(path);
     if fd < 0 {
@@ -298,4 +323,21 @@ pub fn keep(path: &[u8], d: Chip, report: i32) -> bool
     }
     let n = image_part(d, &image);
     replace(path, report, &image[..n])
+}
+
+// Saves a CTC likewise.
+pub fn keep_ctc(path: &[u8], d: Ctc, report: i32) -> bool
+    ensures { λ r. ⌜ (soundCtc d ≡ false → r ≡ false) ⌝ }
+{
+    let mut image = [0u8; Ctc::IMAGE];
+    let answer = ctc_image::save(d, &mut image);
+    if answer != 0 {
+        say(
+            report,
+            path,
+            phrases::refusal_line(answer, Ctc::IMAGE as u32, Ctc::IMAGE),
+        );
+        return false;
+    }
+    replace(path, report, &image)
 }

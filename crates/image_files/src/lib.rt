@@ -3,13 +3,18 @@ mod files;
 
 use chip::Chip;
 use console::print;
+use ctc_rules::Ctc;
 pub use files::keep;
+pub use files::keep_ctc;
 pub use files::load;
 use rules::Device;
 
-// A device, and whether there is one; where not, a line has said why.
+// A device, and whether there is one; where not, a line has said why. A CTC is in `ctc`, beside a fresh Z8036; any other in `device`,
+// beside a fresh CTC.
 pub struct Loaded {
     pub device: Chip,
+    pub ctc: Ctc,
+    pub is_ctc: bool,
     pub ok: bool,
 }
 
@@ -30,13 +35,50 @@ fn show_device(c: Chip, out: i32) {
     show_all(z.core, out);
 }
 
+fn show_ctc(d: Ctc, out: i32) {
+    let mut n = 0;
+    while n < ctc_words::LINES {
+        print(out, ctc_words::line(d, n));
+        n += 1;
+    }
+}
+
 // Prints the device of an image file in words.
 pub fn show(path: &[u8], out: i32, report: i32) {
     let l = files::load(path, report);
     if !l.ok {
         return;
     }
+    if l.is_ctc {
+        show_ctc(l.ctc, out);
+        return;
+    }
     show_device(l.device, out);
+}
+
+fn unwritten(report: i32) {
+    io::write_all(report, b"the answers cannot be written\n");
+}
+
+// Runs a trace on a device, and saves it; likewise on a CTC.
+fn run_device(d: Chip, to: &[u8], input: i32, answers: i32, report: i32) -> bool {
+    let r = console::run(d, input, answers);
+    if !r.ok {
+        unwritten(report);
+        return false;
+    }
+    let e = r.device;
+    files::keep(to, e, report)
+}
+
+fn run_ctc(d: Ctc, to: &[u8], input: i32, answers: i32, report: i32) -> bool {
+    let r = ctc_console::run(d, input, answers);
+    if !r.ok {
+        unwritten(report);
+        return false;
+    }
+    let e = r.device;
+    files::keep_ctc(to, e, report)
 }
 
 // Restores the device of one image file, runs the trace of a descriptor on it, and saves the device to another image
@@ -49,13 +91,10 @@ pub fn night(from: &[u8], to: &[u8], input: i32, answers: i32, report: i32) -> b
     if !files::can_keep(to, report) {
         return false;
     }
-    let r = console::run(l.device, input, answers);
-    if !r.ok {
-        io::write_all(report, b"the answers cannot be written\n");
-        return false;
+    if l.is_ctc {
+        return run_ctc(l.ctc, to, input, answers, report);
     }
-    let e = r.device;
-    files::keep(to, e, report)
+    run_device(l.device, to, input, answers, report)
 }
 
 // As the program `show` does, by its argument.

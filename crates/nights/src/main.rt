@@ -1,7 +1,8 @@
 // Nights and devices in words, one after the other: what `show` prints of four images, a night with one argument, a night
 // refused in each way, a night cut in three, a night between two long runs, one of a version 1 device, one with a
-// handshake, one of a Z8536, and one between long runs by division, and by leaps and rounds.
+// handshake, one of a Z8536, one of a CTC, and one between long runs by division, and by leaps and rounds.
 use chip::Chip;
+use ctc_rules::Ctc;
 use libc::STDIN_FILENO;
 use libc::STDOUT_FILENO;
 
@@ -53,11 +54,20 @@ fn same(c: Chip, d: Chip) -> bool {
         & record::same(y.core, z.core)
 }
 
+fn same_ctc(c: Ctc, d: Ctc) -> bool {
+    let mut a = [0u8; Ctc::IMAGE];
+    let mut b = [0u8; Ctc::IMAGE];
+    ctc_image::save(c, &mut a);
+    ctc_image::save(d, &mut b);
+    image::same_bytes(&a, &b)
+}
+
 // Whether two image files hold the same device.
 fn print_same(one: &[u8], other: &[u8]) {
     let a = image_files::load(one, STDOUT_FILENO);
     let b = image_files::load(other, STDOUT_FILENO);
-    if a.ok & b.ok & same(a.device, b.device) {
+    let alike = (a.is_ctc == b.is_ctc) & same(a.device, b.device) & same_ctc(a.ctc, b.ctc);
+    if a.ok & b.ok & alike {
         io::write_all(STDOUT_FILENO, b"same\n");
     } else {
         io::write_all(STDOUT_FILENO, b"lost\n");
@@ -108,6 +118,20 @@ fn of_z8536() {
     print_same(b"pointed", b"straight");
 }
 
+// A CTC, its prescaler in the middle of a count, a counter, a timer that waits for an edge, an interrupt under service and one that waits.
+// And one refused in each way.
+fn of_ctc() {
+    night(b"-ctc", b"timed", b"ctc/evening");
+    show(b"timed");
+    night(b"timed", b"timed", b"ctc/morning");
+    night(b"-ctc", b"untimed", b"ctc/whole");
+    print_same(b"timed", b"untimed");
+    show(b"ctc/short");
+    show(b"ctc/contents");
+    show(b"ctc/long");
+    show(b"ctc/unsound");
+}
+
 // A night in T 3000000000: of counters that all go alone, and of two that a link and a pattern tie.
 fn in_long_runs() {
     night(b"-", b"alone", b"plain/evening");
@@ -129,5 +153,6 @@ fn main() {
     of_old();
     with_handshake();
     of_z8536();
+    of_ctc();
     in_long_runs();
 }

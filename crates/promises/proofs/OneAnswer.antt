@@ -15,6 +15,13 @@ use Rattle.bodies.specs.Taken.{statesAgree, recordIn, unusedClear}
 use Rattle.bodies.specs.Written.{bodiesOf}
 use Rattle.chip.specs.Chips.{coreOf, eventChip, ofZ8036, ofZ8536}
 use Rattle.chip_image.specs.ChipImage.{lengthChip, restoredChip, saveCodeChip, savedChip}
+use Rattle.ctc_image.specs.Image.{restoredCtc, saveCodeCtc, savedCtc}
+use Rattle.ctc_lines.specs.Answers.{ctcText}
+use Rattle.ctc_lines.specs.Lines.{outcomeKept}
+use Rattle.ctc_rules.specs.Events.{endOfService, eventCtc}
+use Rattle.ctc_rules.specs.Record.{freshCtc}
+use Rattle.ctc_rules.specs.Sound.{soundCtc}
+use Rattle.ctc_words.specs.Shown.{shownCtc}
 use Rattle.image.specs.Image.{agree, restoredOf, saveCode, savedOf}
 use Rattle.image.specs.Pointed.{restoredZ8536, saveCodeZ8536, savedZ8536}
 use Rattle.input.specs.Input.{unread}
@@ -51,6 +58,8 @@ use denote.Ref.{now}
 use lib.ListN.{drop, getD, length}
 use mathlib.Core.Bool.{_&&_, cond}
 use lib.Dec.{ltb}
+use Rattle.ctc_rules.specs.declared.Ctc.{Ctc}
+use Rattle.ctc_rules.specs.declared.CtcAnswer.{CtcAnswer}
 use Rattle.rules.specs.declared.Answer.{Answer}
 use Rattle.rules.specs.declared.Device.{Device}
 use Rattle.rules.specs.declared.Lines.{Lines}
@@ -81,6 +90,17 @@ use Rattle.image.proofs.restore as image·restore
 use Rattle.z8536.proofs.Z8536.fresh as z8536·Z8536-fresh
 use Rattle.z8536.proofs.sound as z8536·sound
 use Rattle.event_z8536.proofs.event as event-z8536·event
+use Rattle.ctc_rules.proofs.Ctc.fresh as ctc-rules·Ctc-fresh
+use Rattle.ctc_rules.proofs.sound as ctc-rules·sound
+use Rattle.ctc_event.proofs.event as ctc-event·event
+use Rattle.ctc_event.proofs.end_of_service as ctc-event·end-of-service
+use Rattle.ctc_place.proofs.event_in_place as ctc-place·event-in-place
+use Rattle.ctc_place.proofs.end_of_service_in_place as ctc-place·end-of-service-in-place
+use Rattle.ctc_image.proofs.save as ctc-image·save
+use Rattle.ctc_image.proofs.restore as ctc-image·restore
+use Rattle.ctc_lines.proofs.outcome as ctc-lines·outcome
+use Rattle.ctc_lines.proofs.answer_text as ctc-lines·answer-text
+use Rattle.ctc_words.proofs.line as ctc-words·line
 use Rattle.image.proofs.save_z8536 as image·save-z8536
 use Rattle.image.proofs.restore_z8536 as image·restore-z8536
 use Rattle.chip.proofs.Chip.of_z8036 as chip·Chip-of-z8036
@@ -269,6 +289,49 @@ module _ {M : Type 1} (𝓤 : URA M) where
 
   pub event-z8536-event : OneResult 𝓤 event-z8536·event.ended (event-z8536·event.clauses 𝓤)
   event-z8536-event = one-result 𝓤 event-z8536·event.ended (event-z8536·event.clauses 𝓤) (λ κs a. eventZ8536 (a .0) (a .1 .0)) refl
+
+  pub ctc-rules-Ctc-fresh : OneResult 𝓤 ctc-rules·Ctc-fresh.ended (ctc-rules·Ctc-fresh.clauses 𝓤)
+  ctc-rules-Ctc-fresh = one-result 𝓤 ctc-rules·Ctc-fresh.ended (ctc-rules·Ctc-fresh.clauses 𝓤) (λ κs a. freshCtc) refl
+
+  pub ctc-rules-sound : OneResult 𝓤 ctc-rules·sound.ended (ctc-rules·sound.clauses 𝓤)
+  ctc-rules-sound = one-result 𝓤 ctc-rules·sound.ended (ctc-rules·sound.clauses 𝓤) (λ κs a. soundCtc (a .0)) refl
+
+  pub ctc-event-event : OneResult 𝓤 ctc-event·event.ended (ctc-event·event.clauses 𝓤)
+  ctc-event-event = one-result 𝓤 ctc-event·event.ended (ctc-event·event.clauses 𝓤) (λ κs a. eventCtc (a .0) (a .1 .0)) refl
+
+  pub ctc-event-end-of-service : OneResult 𝓤 ctc-event·end-of-service.ended (ctc-event·end-of-service.clauses 𝓤)
+  ctc-event-end-of-service = one-result 𝓤 ctc-event·end-of-service.ended (ctc-event·end-of-service.clauses 𝓤) (λ κs a. endOfService (a .0)) refl
+
+  pub ctc-place-event-in-place : OneAnswer 𝓤 ctc-place·event-in-place.ended (ctc-place·event-in-place.clauses 𝓤) (λ κs. CtcAnswer × Ctc) (λ κs r x. (r, now (x .0)))
+  ctc-place-event-in-place =
+      one-answer 𝓤 ctc-place·event-in-place.ended (ctc-place·event-in-place.clauses 𝓤) (λ κs. CtcAnswer × Ctc) (λ κs r x. (r, now (x .0)))
+      (λ κs a. (eventCtc (now (a .0)) (a .1 .0) .answer, eventCtc (now (a .0)) (a .1 .0) .device))
+      (λ H A at-mem run κs a g r x. fact-mono 𝓤 _ _ (λ p i. (p .0 i, p .1 i)))
+
+  pub ctc-place-end-of-service-in-place : OneAnswer 𝓤 ctc-place·end-of-service-in-place.ended (ctc-place·end-of-service-in-place.clauses 𝓤) (λ κs. CtcAnswer × Ctc)
+      (λ κs r x. (r, now (x .0)))
+  ctc-place-end-of-service-in-place =
+      one-answer 𝓤 ctc-place·end-of-service-in-place.ended (ctc-place·end-of-service-in-place.clauses 𝓤) (λ κs. CtcAnswer × Ctc) (λ κs r x. (r, now (x .0)))
+      (λ κs a. (endOfService (now (a .0)) .answer, endOfService (now (a .0)) .device))
+      (λ H A at-mem run κs a g r x. fact-mono 𝓤 _ _ (λ p i. (p .0 i, p .1 i)))
+
+  pub ctc-image-save : OneAnswer 𝓤 ctc-image·save.ended (ctc-image·save.clauses 𝓤) (λ κs. ℕ × List ℕ) (λ κs r x. (r, now (x .1 .0)))
+  ctc-image-save =
+      one-answer 𝓤 ctc-image·save.ended (ctc-image·save.clauses 𝓤) (λ κs. ℕ × List ℕ) (λ κs r x. (r, now (x .1 .0)))
+      (λ κs a. (saveCodeCtc (a .0) (length (now (a .1 .0))), savedCtc (a .0) (now (a .1 .0))))
+      (λ H A at-mem run κs a g r x. fact-mono 𝓤 _ _ (λ p i. (p .0 i, p .1 i)))
+
+  pub ctc-image-restore : OneResult 𝓤 ctc-image·restore.ended (ctc-image·restore.clauses 𝓤)
+  ctc-image-restore = one-result 𝓤 ctc-image·restore.ended (ctc-image·restore.clauses 𝓤) (λ κs a. restoredCtc (now (a .0))) refl
+
+  pub ctc-lines-outcome : OneResult 𝓤 ctc-lines·outcome.ended (ctc-lines·outcome.clauses 𝓤)
+  ctc-lines-outcome = one-result 𝓤 ctc-lines·outcome.ended (ctc-lines·outcome.clauses 𝓤) (λ κs a. outcomeKept (a .0) (a .1 .0)) refl
+
+  pub ctc-lines-answer-text : OneResult 𝓤 ctc-lines·answer-text.ended (ctc-lines·answer-text.clauses 𝓤)
+  ctc-lines-answer-text = one-result 𝓤 ctc-lines·answer-text.ended (ctc-lines·answer-text.clauses 𝓤) (λ κs a. typed noText (ctcText (a .0))) refl
+
+  pub ctc-words-line : OneResult 𝓤 ctc-words·line.ended (ctc-words·line.clauses 𝓤)
+  ctc-words-line = one-result 𝓤 ctc-words·line.ended (ctc-words·line.clauses 𝓤) (λ κs a. typed noText (shownCtc (a .0) (a .1 .0))) refl
 
   pub image-save-z8536 : OneAnswer 𝓤 image·save-z8536.ended (image·save-z8536.clauses 𝓤) (λ κs. ℕ × List ℕ) (λ κs r x. (r, now (x .1 .0)))
   image-save-z8536 =
