@@ -1,3 +1,4 @@
 pub mod Halves
 pub mod Reaches
 pub mod First
+pub mod CaughtUp

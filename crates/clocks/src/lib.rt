@@ -2,16 +2,19 @@
 mod reports;
 
 ghost use mathlib.Core.Path.{_≡_};
-ghost use mathlib.Core.Bool.{true, false};
+ghost use mathlib.Core.Bool.{true, false, not, _||_};
 ghost use lib.Dec.{eqb};
 ghost use Prim.Native.Nat.{_+_, _/_, _%_, _<_};
-ghost use Rattle.basics.specs.Byte.{num};
-ghost use Rattle.rules.specs.Record.{counterAt};
-ghost use Rattle.rules.specs.Registers.{reset};
+ghost use Rattle.basics.specs.Byte.{bit, num};
+ghost use Rattle.rules.specs.Record.{patternAt, counterAt};
+ghost use Rattle.rules.specs.Registers.{reset, portEnabled};
+ghost use Rattle.rules.specs.PortData.{seenAt};
+ghost use Rattle.rules.specs.Patterns.{matchOf};
 ghost use Rattle.rules.specs.Report.{noReport};
-ghost use Rattle.rules.specs.Step.{clockOf, ranOf};
+ghost use Rattle.rules.specs.Step.{linesAt, clockOf, ranOf};
 ghost use Rattle.theorems.specs.Moving.{Caught, comesTo, partAfter, sideAt, sideAfter, apart, runWith};
 ghost use Rattle.clocks.specs.Room.{Room};
+ghost use Rattle.clocks.specs.Catchers.{sameCatchers};
 use rules::Counter;
 use rules::Device;
 use rules::Pattern;
@@ -37,6 +40,16 @@ fn phase_after(n: u32, phase: bool) -> bool
     (n % 2 == 1) != phase
 }
 
+// Whether the gate of counter i is open: by its line, where the mode enables that.
+fn gate_open(d: Device, i: usize, gate_input: bool) -> bool
+    ensures { λ r. ⌜ r ≡ (not «gate_input» || bit (linesAt d i) 3) ⌝ }
+{
+    if gate_input {
+        return step::lines_at(d, i) / 8 % 2 == 1;
+    }
+    true
+}
+
 // Whether timer clocks come to counter i, where no link reaches it.
 fn comes(d: Device, i: usize) -> bool
     requires { ⌜ i < 3 ⌝ }
@@ -45,8 +58,7 @@ fn comes(d: Device, i: usize) -> bool
     let c = d.counters[i];
     let count_input = c.mode / 32 % 2 == 1;
     let gate_input = c.mode / 8 % 2 == 1;
-    let gate_line = step::lines_at(d, i) / 8 % 2 == 1;
-    levels::counter_on(d.config, i) & c.gcb & (!gate_input | gate_line) & !count_input
+    levels::counter_on(d.config, i) & c.gcb & gate_open(d, i, gate_input) & !count_input
 }
 
 // Of 16 bits are its count and its constant.
@@ -73,6 +85,19 @@ fn part(d: Device, i: usize, c: Counter, k: u32) -> Part
     alone::alone(d.version, comes(d, i), c, s, k)
 }
 
+// Whether the pattern of port p matches what stands there.
+fn matches_at(d: Device, p: usize) -> bool
+    requires { ⌜ p < 2 ⌝ }
+    ensures { λ r. ⌜ r ≡ matchOf (portEnabled d p) (patternAt d p) (seenAt d p) (seenAt d p) ⌝ }
+{
+    let q = d.patterns[p];
+    if q.mode / 2 % 4 == 0 {
+        return false;
+    }
+    let seen = levels::seen_at(d, p);
+    step::matches(levels::port_enabled(d, p), q, seen, seen)
+}
+
 // Port p's side after k timer clocks in which nothing that it sees changes.
 fn side(d: Device, p: usize, k: u32) -> Side
     requires { ⌜ p < 2 ⌝ }
@@ -86,8 +111,7 @@ fn side(d: Device, p: usize, k: u32) -> Side
             source: s,
         };
     }
-    let seen = levels::seen_at(d, p);
-    let m = step::matches(levels::port_enabled(d, p), q, seen, seen);
+    let m = matches_at(d, p);
     Side {
         pmf: m,
         source: alone::matched(q, q.pmf, m, s),
@@ -195,6 +219,22 @@ fn catching(n: u32, start: Ran) -> Ran
     reports::on_top(r, parts(n - 2, d))
 }
 
+// Whether two records have the same catchers.
+fn same_catchers(e: Device, d: Device) -> bool
+    ensures { λ r. ⌜ r ≡ sameCatchers e d ⌝ }
+{
+    (e.ports[0].catcher == d.ports[0].catcher)
+        & (e.ports[1].catcher == d.ports[1].catcher)
+        & (e.ports[2].catcher == d.ports[2].catcher)
+}
+
+// Whether the catchers have caught.
+fn has_caught(d: Device) -> bool
+    ensures { λ r. ⌜ (r ≡ true → Caught d) ⌝ }
+{
+    same_catchers(step::catch_all(d), d)
+}
+
 // n PCLK clocks.
 pub fn run(n: u32, d: Device) -> Ran
     ensures { λ r. ⌜ r ≡ ranOf n d ⌝ }
@@ -209,7 +249,7 @@ pub fn run(n: u32, d: Device) -> Ran
     if d.reset() {
         return start;
     }
-    if record::same(step::catch_all(d), d) {
+    if has_caught(d) {
         return parts(n, d);
     }
     catching(n, start)

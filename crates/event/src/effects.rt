@@ -4,7 +4,7 @@ ghost use mathlib.Core.Bool.{not, _&&_};
 ghost use Rattle.basics.specs.Signs.{_==_};
 ghost use Rattle.rules.specs.Registers.{reset};
 ghost use Rattle.rules.specs.Report.{noReport};
-ghost use Rattle.rules.specs.Events.{codeOf, effect as plain, writeEffect, readEffect, outsideSet, pinsEffect, clocksEffect, acknowledgeEffect, ieiEffect, effectOf, relit};
+ghost use Rattle.rules.specs.Events.{codeOf, effect as plain, writeEffect, readEffect, outsideSet, pinsEffect, clocksEffect, acknowledgeEffect, ieiEffect, effectOf};
 use rules::Device;
 use rules::Effect;
 use rules::Event;
@@ -107,19 +107,6 @@ fn iei_effect(d: Device, v: u32) -> Effect
     effect(after, 0)
 }
 
-// With the lines of its record worked out.
-pub(crate) fn relit(f: Effect) -> Effect
-    ensures { λ r. ⌜ r ≡ relit f ⌝ }
-{
-    let after = interrupts::relined(f.device);
-    let report = f.report;
-    Effect {
-        device: after,
-        value: f.value,
-        report: report,
-    }
-}
-
 // What an accepted event does.
 pub(crate) fn effect_of(d: Device, e: Event) -> Effect
     requires { ⌜ codeOf d e ≡ 0 ⌝ }
@@ -127,7 +114,8 @@ pub(crate) fn effect_of(d: Device, e: Event) -> Effect
 {
     let k = e.kind;
     match k {
-        0 => effect(record::reset(d), 0),
+        // "Reset (X, or D0 written 1 to 00)"
+        0 => write_effect(d, 0x00, 0x01),
         1 => write_effect(d, e.a, e.b as u8),
         2 => read_effect(d, e.a),
         3 => pins_effect(d, e.a as u8, e.b as u8, e.c as u8),

@@ -2,7 +2,7 @@
 mod effects;
 
 ghost use mathlib.Core.Path.{_≡_};
-ghost use Rattle.rules.specs.Events.{unsoundAnswer, outcomeOf, eventOf};
+ghost use Rattle.rules.specs.Events.{relit, unsoundAnswer, outcomeOf, eventOf};
 use rules::Answer;
 use rules::Device;
 use rules::Effect;
@@ -29,11 +29,11 @@ fn unsound(d: Device) -> Outcome
     }
 }
 
-// An answer with the lines after the event.
+// An answer with the lines after the event, which are worked out once.
 fn outcome(code: u8, f: Effect) -> Outcome
-    ensures { λ r. ⌜ r ≡ outcomeOf code f ⌝ }
+    ensures { λ r. ⌜ r ≡ outcomeOf code (relit f) ⌝ }
 {
-    let d = f.device;
+    let d = interrupts::relined(f.device);
     let report = f.report;
     Outcome {
         device: d,
@@ -59,7 +59,7 @@ pub fn event(d: Device, e: Event) -> Outcome
         return unsound(d);
     }
     if code == 0 {
-        return outcome(0, effects::relit(effects::effect_of(d, e)));
+        return outcome(0, effects::effect_of(d, e));
     }
     outcome(code, effects::effect(d, 0))
 }

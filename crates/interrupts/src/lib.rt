@@ -4,8 +4,9 @@ mod vectors;
 
 ghost use mathlib.Core.Path.{_≡_};
 ghost use Prim.Native.Nat.{_<_, _≤_};
+ghost use Rattle.interrupts.specs.Order.{firstUnserved};
 ghost use Rattle.rules.specs.Registers.{mie};
-ghost use Rattle.rules.specs.Interrupts.{first, pending, requests, requester, intOf, ieoOf, placeOf, linesOf, relined, acknowledge, acknowledged, pendingCounter, vectorRead, currentVector};
+ghost use Rattle.rules.specs.Interrupts.{first, pending, requester, intOf, ieoOf, placeOf, linesOf, relined, acknowledge, acknowledged, pendingCounter, vectorRead, currentVector};
 use order::NONE;
 use rules::Device;
 use rules::Lines;
@@ -17,24 +18,25 @@ fn mie(d: Device) -> bool
     d.master / 128 % 2 == 1
 }
 
-fn requests_at(d: Device, k: usize) -> bool
-    requires { ⌜ k < 5 ⌝ }
-    ensures { λ r. ⌜ r ≡ requests d k ⌝ }
+// The highest requester, or 5, where the master bits let sources request.
+fn first_unserved(d: Device) -> usize
+    ensures { λ r. ⌜ (r ≡ firstUnserved d) × (r ≤ 5) ⌝ }
 {
-    mie(d) & d.iei & order::pending_at(d, k) & !order::served_at(d, k)
+    let from_ct1 = order::unserved(d.sources[Source::CT1], Source::CT1, NONE);
+    let from_b = order::unserved(d.sources[Source::B], Source::B, from_ct1);
+    let from_ct2 = order::unserved(d.sources[Source::CT2], Source::CT2, from_b);
+    let from_a = order::unserved(d.sources[Source::A], Source::A, from_ct2);
+    order::unserved(d.sources[Source::CT3], Source::CT3, from_a)
 }
 
 // The highest requester, or 5.
 pub fn requester_of(d: Device) -> usize
     ensures { λ r. ⌜ (r ≡ requester d) × (r ≤ 5) ⌝ }
 {
-    order::first(
-        requests_at(d, Source::CT3),
-        requests_at(d, Source::A),
-        requests_at(d, Source::CT2),
-        requests_at(d, Source::B),
-        requests_at(d, Source::CT1),
-    )
+    if mie(d) & d.iei {
+        return first_unserved(d);
+    }
+    NONE
 }
 
 // The place of the highest requester: 1 to 5, or 0.

@@ -3,6 +3,7 @@ ghost use mathlib.Core.Path.{_≡_};
 ghost use Prim.Native.Nat.{_<_, _≤_};
 ghost use Rattle.rules.specs.Record.{sourceAt};
 ghost use Rattle.rules.specs.Interrupts.{firstOf, served, pending};
+ghost use Rattle.interrupts.specs.Order.{unserved};
 use rules::Device;
 use rules::Source;
 
@@ -29,6 +30,20 @@ pub(crate) fn first(ct3: bool, a: bool, ct2: bool, b: bool, ct1: bool) -> usize
         return Source::CT1;
     }
     NONE
+}
+
+// Of source k and those below it, of which `rest` is the first: none where it is served, itself where it waits.
+pub(crate) fn unserved(s: Source, k: usize, rest: usize) -> usize
+    requires { ⌜ (k ≤ 5) × (rest ≤ 5) ⌝ }
+    ensures { λ r. ⌜ (r ≡ unserved s k rest) × (r ≤ 5) ⌝ }
+{
+    if s.ius {
+        return NONE;
+    }
+    if s.ie & s.ip {
+        return k;
+    }
+    rest
 }
 
 pub(crate) fn source_at(d: Device, k: usize) -> Source

@@ -7,6 +7,7 @@ ghost use Rattle.rules.specs.Record.{portAt, patternAt, transferAt};
 ghost use Rattle.rules.specs.Registers.{portOn, portEnabled, counterOn};
 ghost use Rattle.rules.specs.Handshakes.{inputs, outputs, handshakes, ackinAt, offersAt};
 ghost use Rattle.rules.specs.PortData.{directionAt, effectiveAt, valueAt, pinsAt, pathAt, seenAt, dataAt};
+ghost use Rattle.levels.specs.Outputs.{withOutputs};
 use rules::Device;
 use rules::Port;
 
@@ -126,7 +127,8 @@ pub fn effective_at(d: Device, p: usize) -> Port
     ensures { λ r. ⌜ r ≡ effectiveAt d p ⌝ }
 {
     if handshake::any(d) {
-        return handshake::effective(d, p);
+        let e = d;
+        return handshake::effective(e, p);
     }
     port_at(d, p)
 }
@@ -137,13 +139,11 @@ pub fn direction_at(d: Device, p: usize) -> u8
     effective_at(d, p).direction
 }
 
-// The value that port p puts out.
-fn value_at(d: Device, p: usize) -> u8
-    ensures { λ r. ⌜ r ≡ valueAt d p ⌝ }
+// The byte x of port p with the outputs of the counters that stand for its bits.
+fn with_outputs(d: Device, p: usize, x: u8) -> u8
+    ensures { λ r. ⌜ r ≡ withOutputs d p x ⌝ }
 {
-    let q = port_at(d, p);
-    let x = q.output;
-    if (p == 0) | outputs_at(d, p) {
+    if p == 0 {
         return x;
     }
     if p == 1 {
@@ -152,21 +152,67 @@ fn value_at(d: Device, p: usize) -> u8
         return port::stand(d.version, c1, true, port::stand(d.version, c2, false, x));
     }
     let c3 = d.counters[2];
-    handshake::shown(d, port::stand(d.version, c3, false, x))
+    port::stand(d.version, c3, false, x)
+}
+
+// The value that port p puts out.
+fn value_at(d: Device, p: usize) -> u8
+    ensures { λ r. ⌜ r ≡ valueAt d p ⌝ }
+{
+    let q = port_at(d, p);
+    let x = q.output;
+    if outputs_at(d, p) {
+        return x;
+    }
+    let v = with_outputs(d, p, x);
+    if p < 2 {
+        return v;
+    }
+    handshake::shown(d, v)
+}
+
+// A port with what is in effect, and the value that it puts out.
+struct Face {
+    port: Port,
+    value: u8,
+}
+
+// Port p, where a port has a handshake.
+fn handshake_face(d: Device, p: usize) -> Face
+    ensures { λ r. ⌜ (r .port ≡ effectiveAt d p) × (r .value ≡ valueAt d p) ⌝ }
+{
+    let q = handshake::effective(d, p);
+    Face {
+        port: q,
+        value: value_at(d, p),
+    }
 }
 
 pub fn pins_at(d: Device, p: usize) -> u8
     ensures { λ r. ⌜ r ≡ pinsAt d p ⌝ }
 {
-    let q = effective_at(d, p);
-    port::pins(port_enabled(d, p), q, value_at(d, p))
+    let enabled = port_enabled(d, p);
+    if handshake::any(d) {
+        let e = d;
+        let f = handshake_face(e, p);
+        return port::pins(enabled, f.port, f.value);
+    }
+    let q = port_at(d, p);
+    port::pins(enabled, q, with_outputs(d, p, q.output))
 }
 
+// An input's pin shows the outside level.
 pub fn path_at(d: Device, p: usize) -> u8
     ensures { λ r. ⌜ r ≡ pathAt d p ⌝ }
 {
-    let q = effective_at(d, p);
-    port::path(q, pins_at(d, p), value_at(d, p))
+    if handshake::any(d) {
+        let e = d;
+        let f = handshake_face(e, p);
+        let r = f.port;
+        return port::path(r, r.outside, f.value);
+    }
+    let q = port_at(d, p);
+    port::path(q, q.outside, with_outputs(d, p, q.output))
 }
 
 pub fn seen_at(d: Device, p: usize) -> u8

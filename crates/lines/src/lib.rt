@@ -1,4 +1,5 @@
 // The lines of a trace: cut from an input that comes in pieces, and read as events.
+mod long;
 mod pieces;
 mod reading;
 

@@ -3,10 +3,11 @@ ghost use mathlib.Core.Path.{_≡_};
 ghost use lib.ListN.{drop};
 ghost use Rattle.lines.specs.Pieces.{cutFrom};
 use crate::Cut;
+use crate::long::cut_long;
+use texts::ROOM;
 use texts::Text;
-use texts::push;
 
-// From a place in a piece to the end of a line, which may have begun in a piece before.
+// From a place in a piece to the end of a line, which may have begun in a piece before. While there is room its bytes are kept in place.
 pub fn cut_from(t: Text, piece: &[u8], at: usize) -> Cut
     ensures { λ r. ⌜ r ≡ cutFrom t at (drop at (now (piece .entry))) ⌝ }
 {
@@ -21,7 +22,12 @@ pub fn cut_from(t: Text, piece: &[u8], at: usize) -> Cut
                 whole: true,
             };
         }
-        u = push(u, b);
+        let n = u.len;
+        if ROOM <= n {
+            return cut_long(u, piece, i);
+        }
+        u.bytes[n] = b;
+        u.len = n + 1;
         i += 1;
     }
     Cut {

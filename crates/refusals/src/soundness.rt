@@ -87,15 +87,13 @@ fn pmf_only(enabled: bool, p: Pattern) -> bool
     !p.pmf | (enabled & (is_and | is_or | priority) & (ports::on(p) != 0))
 }
 
+// A catcher is at an input, whose path value is the outside level XOR polarity.
 fn sound_port_at(d: Device, p: usize) -> bool
     requires { ⌜ p < 3 ⌝ }
     ensures { λ r. ⌜ r ≡ soundPortAt d p ⌝ }
 {
-    sound_port(
-        levels::port_enabled(d, p),
-        levels::effective_at(d, p),
-        levels::path_at(d, p),
-    )
+    let q = levels::effective_at(d, p);
+    sound_port(levels::port_enabled(d, p), q, q.outside ^ q.polarity)
 }
 
 fn sound_ports(d: Device) -> bool

@@ -101,23 +101,18 @@ pub fn lines_at(d: Device, i: usize) -> u8
     levels::path_at(d, 2) % 16
 }
 
-// The turn of counter i in the device d; d0 and d1 are those before the step and after (a).
-fn counter_turn(k: Link, timer: bool, d0: Device, d1: Device, i: usize, d: Device) -> Turned
+// The turn of counter i in the device d; its lines were and are, before the step and after (a).
+fn counter_turn(k: Link, timer: bool, were: u8, are: u8, i: usize, d: Device) -> Turned
     requires { ⌜ i < 3 ⌝ }
-    ensures { λ t. ⌜ t ≡ counterTurn k timer (linesAt d0 i) (linesAt d1 i) i d ⌝ }
+    ensures { λ t. ⌜ t ≡ counterTurn k timer were are i d ⌝ }
 {
     let c = d.counters[i];
     let enabled = levels::counter_on(d.config, i);
-    let r = counters::turn(
-        d.version,
-        enabled,
-        c,
-        k,
-        timer,
-        lines_at(d0, i),
-        lines_at(d1, i),
-    );
-    turned_by(d, i, r)
+    turned_by(
+        d,
+        i,
+        counters::turn(d.version, enabled, c, k, timer, were, are),
+    )
 }
 
 // What LC makes of CT1's output before the step and after (b).
@@ -159,11 +154,8 @@ fn caught_at(d: Device, p: usize) -> Port
 {
     let q = d.ports[p];
     let mut e = q;
-    e.catcher = caught(
-        levels::port_enabled(d, p),
-        levels::effective_at(d, p),
-        levels::path_at(d, p),
-    );
+    let r = levels::effective_at(d, p);
+    e.catcher = caught(levels::port_enabled(d, p), r, r.outside ^ r.polarity);
     e
 }
 
@@ -233,13 +225,14 @@ pub fn step(timer: bool, d0: Device, d1: Device) -> Stepped
         only: false,
         count: false,
     };
-    let b = counter_turn(unlinked, timer, d0, d1, 0, d1);
+    let b = counter_turn(unlinked, timer, lines_at(d0, 0), lines_at(d1, 0), 0, d1);
     let db = b.device;
     let fb = b.fate;
-    let c = counter_turn(linked(d0, d1, db), timer, d0, d1, 1, db);
+    let k = linked(d0, d1, db);
+    let c = counter_turn(k, timer, lines_at(d0, 1), lines_at(d1, 1), 1, db);
     let dc = c.device;
     let fc = c.fate;
-    let d = counter_turn(unlinked, timer, d0, d1, 2, dc);
+    let d = counter_turn(unlinked, timer, lines_at(d0, 2), lines_at(d1, 2), 2, dc);
     let dd = d.device;
     let fd = d.fate;
     Stepped {

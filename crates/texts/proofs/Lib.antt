@@ -1,3 +1,4 @@
 pub mod Typing
 pub mod Keeping
 pub mod Printed
+pub mod OneDigit

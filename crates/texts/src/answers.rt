@@ -10,6 +10,7 @@ use crate::Text;
 use crate::kept::kept_len;
 use crate::kept::no_text;
 use crate::kept::push;
+use crate::short;
 use rules::Answer;
 use rules::Report;
 
@@ -24,19 +25,19 @@ pub fn glyph(n: u8) -> u8
     b'A' + (d - 10)
 }
 
-fn hex(t: Text, n: u8) -> Text
+pub(crate) fn hex(t: Text, n: u8) -> Text
     ensures { λ r. ⌜ r ≡ typed t (hexText n) ⌝ }
 {
     push(push(push(t, b' '), glyph(n / 16)), glyph(n))
 }
 
-fn nibble(t: Text, n: u8) -> Text
+pub(crate) fn nibble(t: Text, n: u8) -> Text
     ensures { λ r. ⌜ r ≡ typed t (nibbleText n) ⌝ }
 {
     push(push(t, b' '), glyph(n))
 }
 
-fn flag(t: Text, f: bool) -> Text
+pub(crate) fn flag(t: Text, f: bool) -> Text
     ensures { λ r. ⌜ r ≡ typed t (flagText f) ⌝ }
 {
     let s = push(t, b' ');
@@ -103,8 +104,8 @@ pub fn levels(t: Text, a: Answer) -> Text
     report(flag(flag(pins, a.int), a.ieo), r)
 }
 
-// The line of an answer, with its line feed.
-pub fn answer_text(a: Answer) -> Text
+// The line of an answer whose numbers are of any length.
+fn long_text(a: Answer) -> Text
     ensures { λ r. ⌜ r ≡ typed noText (answerText a) ⌝ }
 {
     let r = a.report;
@@ -112,6 +113,16 @@ pub fn answer_text(a: Answer) -> Text
     let pins = nibble(hex(hex(hex(code, a.value), a.a), a.b), a.c);
     let levels = flag(flag(pins, a.int), a.ieo);
     push(report(levels, r), b'\n')
+}
+
+// The line of an answer, with its line feed.
+pub fn answer_text(a: Answer) -> Text
+    ensures { λ r. ⌜ r ≡ typed noText (answerText a) ⌝ }
+{
+    if short::is_short(a) {
+        return short::short_text(a);
+    }
+    long_text(a)
 }
 
 // Lays a text into a buffer from a place, and answers the place after it; where it does not fit, nothing.

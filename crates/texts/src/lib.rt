@@ -1,6 +1,7 @@
 // The bytes of a line: as they are kept, as an answer has them, and laid into a buffer.
 mod answers;
 mod kept;
+mod short;
 
 pub use answers::answer_text;
 pub use answers::decimal;

@@ -26,14 +26,8 @@ returns c =
     let at-place = c .before .before in
     simp (eq-eqb _ _ (c .if1 .taken), at-place .of-port .ensures, mod-eq-of-lt (at-place .before .before .pre))
 
-seen-at-requires : tie.Need-seen-at-requires
-seen-at-requires c κs = search needs
-
-port-enabled-requires : tie.Need-port-enabled-requires
-port-enabled-requires c κs = search needs
-
-matches-requires : tie.Need-matches-requires
-matches-requires c κs = search needs
+matches-at-requires : tie.Need-matches-at-requires
+matches-at-requires c κs = search needs
 
 matched-requires : tie.Need-matched-requires
 matched-requires c κs = search needs
@@ -42,14 +36,11 @@ returns-2 : tie.Need-returns-2
 unfolding sideAfter sideBy sideAt
 returns-2 c =
     let at-match = c .before in
-    let at-seen = at-match .before .before in
-    let at-place = at-seen .before .before .before in
+    let at-place = at-match .before .before .before in
     simp (
-      ne-eqb _ _ (at-seen .before .if1 .left),
+      ne-eqb _ _ (at-match .before .if1 .left),
       c .matched .ensures,
-      at-match .matches .ensures,
-      at-match .before .port-enabled .ensures,
-      at-seen .seen-at .ensures,
+      at-match .matches-at .ensures,
       at-place .of-port .ensures,
       mod-eq-of-lt (at-place .before .before .pre),
     )
@@ -64,8 +55,6 @@ side-spec =
     mul-s
     element-copy-out-s
     returns
-    seen-at-requires
-    port-enabled-requires
-    matches-requires
+    matches-at-requires
     matched-requires
     returns-2)

@@ -1,5 +1,9 @@
+use Prim.Native.Nat.{ℕ}
+use mathlib.Core.Path.{sym, ap, _∙_}
+use lib.Dec.{eqb}
 use borrow.Author.Tests.{eq-eqb, ne-eqb}
-use Rattle.rules.specs.Events.{eventOf}
+use Rattle.rules.specs.Events.{outcomeOf, eventOf}
+use Rattle.event.proofs.Refused.{as-it-was}
 use borrow.Author.Needs.{needs}
 use Rattle.event.proofs.event.Statement.{statement}
 use Rattle.event.proofs.event.Tie as tie
@@ -17,23 +21,18 @@ returns c = simp (← c .before .before .code-of .ensures, eq-eqb _ _ (c .before
 effect-of-requires : tie.Need-effect-of-requires
 effect-of-requires c κs = search needs
 
-relit-requires : tie.Need-relit-requires
-relit-requires c κs = search needs
-
 outcome-requires : tie.Need-outcome-requires
 outcome-requires c κs = search needs
 
 returns-2 : tie.Need-returns-2
 unfolding eventOf
 returns-2 c =
-    let at-effect = c .before .before in
-    let at-if2 = at-effect .before in
+    let at-if2 = c .before .before in
     simp (
       ← at-if2 .before .before .code-of .ensures,
       ne-eqb _ _ (at-if2 .before .if1 .left),
       eq-eqb _ _ (at-if2 .if2 .taken),
-      at-effect .effect-of .ensures,
-      c .before .relit .ensures,
+      c .before .effect-of .ensures,
       c .outcome .ensures,
     )
 
@@ -47,7 +46,13 @@ returns-3 : tie.Need-returns-3
 unfolding eventOf
 returns-3 c =
     let at-if2 = c .before .before in
-    simp (← at-if2 .before .before .code-of .ensures, ne-eqb _ _ (at-if2 .before .if1 .left), ne-eqb _ _ (at-if2 .if2 .left), c .before .effect .ensures, c .outcome2 .ensures)
+    let at-code = at-if2 .before .before in
+    let a = at-code .before .args in
+    let sound = ap (λ (n : ℕ). eqb n 9) (sym (at-code .code-of .ensures)) ∙ ne-eqb _ _ (at-if2 .before .if1 .left) in
+    c .outcome2 .ensures
+    ∙ (simp (c .before .effect .ensures))
+    ∙ ap (outcomeOf (at-code .code-of .result)) (as-it-was (a .d) (a .e) sound)
+    ∙ (simp (← at-code .code-of .ensures, ne-eqb _ _ (at-if2 .before .if1 .left), ne-eqb _ _ (at-if2 .if2 .left)))
 
 pub event-spec : {M : Type 1} → statement M
 event-spec =
@@ -57,7 +62,6 @@ event-spec =
     unsound-requires
     returns
     effect-of-requires
-    relit-requires
     outcome-requires
     returns-2
     effect-requires

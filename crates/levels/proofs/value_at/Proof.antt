@@ -1,6 +1,8 @@
-use borrow.Author.Needs.{needs}
-use borrow.Author.Tests.{ne-eqb}
+use Rattle.levels.proofs.Plain.{of-two, past-two}
+use mathlib.Core.Bool.{or-true, or-false}
 use Rattle.rules.specs.PortData.{valueAt}
+use Rattle.levels.specs.Outputs.{withOutputs}
+use borrow.Author.Needs.{needs}
 use Rattle.levels.proofs.value_at.Statement.{statement}
 use Rattle.levels.proofs.value_at.Tie as tie
 
@@ -12,49 +14,29 @@ outputs-at-requires c κs = search needs
 
 returns : tie.Need-returns
 unfolding valueAt
-returns c = simp (c .before .before .port-at .ensures, ← c .before .outputs-at .ensures, c .if1 .taken)
+returns c = simp (c .before .before .port-at .ensures, ← c .before .outputs-at .ensures, c .if1 .taken, or-true)
 
-element-copy-out-c1 : tie.Need-element-copy-out-c1
-element-copy-out-c1 c = search needs
-
-element-copy-out-c2 : tie.Need-element-copy-out-c2
-element-copy-out-c2 c = search needs
-
-stand-requires : tie.Need-stand-requires
-stand-requires c κs = search needs
-
-stand-requires-2 : tie.Need-stand-requires-2
-stand-requires-2 c κs = search needs
+with-outputs-requires : tie.Need-with-outputs-requires
+with-outputs-requires c κs = search needs
 
 returns-2 : tie.Need-returns-2
-unfolding valueAt
+unfolding valueAt withOutputs
 returns-2 c =
-    let t = c .before .before .before .before in
-    simp (← t .before .before .outputs-at .ensures, t .before .if1 .left)
-    (simp (c .stand2 .ensures, c .before .stand .ensures, t .if2 .taken, t .before .before .before .port-at .ensures))
-
-element-copy-out-c3 : tie.Need-element-copy-out-c3
-element-copy-out-c3 c = search needs
-
-stand-requires-3 : tie.Need-stand-requires-3
-stand-requires-3 c κs = search needs
+    let v = c .before in
+    let u = v .before .before in
+    simp (v .with-outputs .ensures, ← u .outputs-at .ensures, v .before .if1 .left, or-false, u .before .port-at .ensures)
+    (of-two _ _ _ _ _ (c .if2 .taken))
 
 shown-requires : tie.Need-shown-requires
 shown-requires c κs = search needs
 
 returns-3 : tie.Need-returns-3
-unfolding valueAt
+unfolding valueAt withOutputs
 returns-3 c =
-    let e = c .before .before .before in
-    let at-if = e .before in
-    simp (
-      c .shown .ensures,
-      c .before .stand3 .ensures,
-      ← at-if .before .outputs-at .ensures,
-      at-if .if1 .left,
-      ne-eqb _ _ (e .if2 .left),
-      at-if .before .before .port-at .ensures,
-    )
+    let v = c .before .before in
+    let u = v .before .before in
+    let t = past-two _ (c .before .if2 .left) in
+    simp (c .shown .ensures, v .with-outputs .ensures, ← u .outputs-at .ensures, v .before .if1 .left, or-false, u .before .port-at .ensures, t .0, t .1)
 
 pub value-at-spec : {M : Type 1} → statement M
 value-at-spec =
@@ -63,12 +45,7 @@ value-at-spec =
     port-at-requires
     outputs-at-requires
     returns
-    element-copy-out-c1
-    element-copy-out-c2
-    stand-requires
-    stand-requires-2
+    with-outputs-requires
     returns-2
-    element-copy-out-c3
-    stand-requires-3
     shown-requires
     returns-3)

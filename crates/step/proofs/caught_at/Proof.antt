@@ -1,7 +1,28 @@
+use Rattle.rules.specs.Record.{portAt}
+use Prim.Native.Nat.{ℕ}
+use mathlib.Core.Path.{_≡_, sym, ap, ap₂, _∙_}
+use mathlib.Core.Bool.{Bool}
+use lib.Bits.{bitXor}
+use Rattle.rules.specs.declared.Device.{Device}
+use Rattle.rules.specs.declared.Port.{Port}
+use Rattle.rules.specs.Registers.{portEnabled}
+use Rattle.rules.specs.With.{withCatcher}
+use Rattle.rules.specs.PortData.{effectiveAt, valueAt, pinsAt, pathAt, caughtOf}
 use Rattle.rules.specs.Step.{caughtAt}
+use Rattle.levels.proofs.Catching.{caught-outside}
 use borrow.Author.Needs.{needs}
 use Rattle.step.proofs.caught_at.Statement.{statement}
 use Rattle.step.proofs.caught_at.Tie as tie
+
+-- the catchers by the outside levels
+caught-here : (d : Device) (p x : ℕ) (e : Bool) (r : Port) → e ≡ portEnabled d p → r ≡ effectiveAt d p → x ≡ caughtOf e r (bitXor (r .outside) (r .polarity))
+    → withCatcher (portAt d p) x ≡ caughtAt d p
+unfolding caughtAt pathAt pinsAt
+caught-here d p x e r f g h =
+    ap (withCatcher (portAt d p))
+    (h
+    ∙ ap₂ (λ (b : Bool) (q : Port). caughtOf b q (bitXor (q .outside) (q .polarity))) f g
+    ∙ sym (caught-outside (portEnabled d p) (effectiveAt d p) (valueAt d p)))
 
 mul-q : tie.Need-mul-q
 mul-q c = search needs
@@ -9,23 +30,17 @@ mul-q c = search needs
 element-copy-out-q : tie.Need-element-copy-out-q
 element-copy-out-q c = search needs
 
-port-enabled-requires : tie.Need-port-enabled-requires
-port-enabled-requires c κs = search needs
-
 effective-at-requires : tie.Need-effective-at-requires
 effective-at-requires c κs = search needs
 
-path-at-requires : tie.Need-path-at-requires
-path-at-requires c κs = search needs
+port-enabled-requires : tie.Need-port-enabled-requires
+port-enabled-requires c κs = search needs
 
 caught-requires : tie.Need-caught-requires
 caught-requires c κs = search needs
 
 returns : tie.Need-returns
-unfolding caughtAt
-returns c =
-    let at-effective = c .before .before in
-    simp (c .caught .ensures, c .before .path-at .ensures, at-effective .effective-at .ensures, at-effective .before .port-enabled .ensures)
+returns c = caught-here _ _ _ _ _ (c .before .before .port-enabled .ensures) (c .before .before .before .effective-at .ensures) (c .caught .ensures)
 
 pub caught-at-spec : {M : Type 1} → statement M
 caught-at-spec =
@@ -33,8 +48,7 @@ caught-at-spec =
     (tie.spec
     mul-q
     element-copy-out-q
-    port-enabled-requires
     effective-at-requires
-    path-at-requires
+    port-enabled-requires
     caught-requires
     returns)

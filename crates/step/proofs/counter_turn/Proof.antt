@@ -12,12 +12,6 @@ element-copy-out-c c = search needs
 counter-on-requires : tie.Need-counter-on-requires
 counter-on-requires c κs = search needs
 
-lines-at-requires : tie.Need-lines-at-requires
-lines-at-requires c κs = search needs
-
-lines-at-requires-2 : tie.Need-lines-at-requires-2
-lines-at-requires-2 c κs = search needs
-
 turn-requires : tie.Need-turn-requires
 turn-requires c κs = search needs
 
@@ -26,15 +20,7 @@ turned-by-requires c κs = search needs
 
 returns : tie.Need-returns
 unfolding counterTurn
-returns c =
-    let at-lines = c .before .before in
-    simp (
-      c .turned-by .ensures,
-      c .before .turn .ensures,
-      at-lines .lines-at2 .ensures,
-      at-lines .before .lines-at .ensures,
-      at-lines .before .before .counter-on .ensures,
-    )
+returns c = simp (c .turned-by .ensures, c .before .turn .ensures, c .before .before .counter-on .ensures)
 
 pub counter-turn-spec : {M : Type 1} → statement M
 counter-turn-spec =
@@ -43,8 +29,6 @@ counter-turn-spec =
     mul-c
     element-copy-out-c
     counter-on-requires
-    lines-at-requires
-    lines-at-requires-2
     turn-requires
     turned-by-requires
     returns)

@@ -2,21 +2,19 @@ use native.Mathlib.Omega.{arith}
 use borrow.Author.Tests.{ne-eqb}
 use Rattle.rules.specs.Events.{effectOf}
 use Rattle.event.proofs.Accepted.{a-byte, pin-levels}
+use Rattle.event.proofs.Resets.{reset-written}
 use borrow.Author.Needs.{needs}
 use Rattle.event.proofs.effects.effect_of.Statement.{statement}
 use Rattle.event.proofs.effects.effect_of.Tie as tie
 
-reset-requires : tie.Need-reset-requires
-reset-requires c κs = search needs
-
-effect-requires : tie.Need-effect-requires
-effect-requires c κs = search needs
+write-effect-requires : tie.Need-write-effect-requires
+write-effect-requires c κs = search needs
 
 cast-write-effect : tie.Need-cast-write-effect
 cast-write-effect c = record { fits = a-byte _ _ (c .before .before .pre) (c .before .match .keys2) }
 
-write-effect-requires : tie.Need-write-effect-requires
-write-effect-requires c κs = search needs
+write-effect-requires-2 : tie.Need-write-effect-requires-2
+write-effect-requires-2 c κs = search needs
 
 read-effect-requires : tie.Need-read-effect-requires
 read-effect-requires c κs = search needs
@@ -44,11 +42,11 @@ iei-effect-requires c κs = search needs
 
 returns : tie.Need-returns
 unfolding effectOf
-returns c = simp (c .before .before .match .keys1, c .before .reset .ensures, c .effect .ensures)
+returns c = simp (c .before .match .keys1, c .write-effect .ensures, reset-written)
 
 returns-2 : tie.Need-returns-2
 unfolding effectOf
-returns-2 c = simp (c .before .before .match .keys2, c .write-effect .ensures)
+returns-2 c = simp (c .before .before .match .keys2, c .write-effect2 .ensures)
 
 returns-3 : tie.Need-returns-3
 unfolding effectOf
@@ -77,10 +75,9 @@ pub effect-of-spec : {M : Type 1} → statement M
 effect-of-spec =
     tie.close
     (tie.spec
-    reset-requires
-    effect-requires
-    cast-write-effect
     write-effect-requires
+    cast-write-effect
+    write-effect-requires-2
     read-effect-requires
     cast-pins-effect
     cast-pins-effect-2
