@@ -7,6 +7,7 @@ use Rattle.rules.specs.declared.Event.{Event}
 use Rattle.rules.specs.declared.Outcome.{Outcome}
 use Rattle.rules.specs.Sound.{soundOf}
 use Rattle.rules.specs.Events.{eventOf}
+use Rattle.event.specs.Known.{knownOf}
 use Rattle.z8536.specs.declared.Z8536.{Z8536}
 use Rattle.z8536.specs.declared.OutcomeZ8536.{OutcomeZ8536}
 use Rattle.z8536.specs.Z8536.{soundZ8536, eventZ8536}
@@ -36,3 +37,7 @@ fromZ8536 o = record { device = ofZ8536 (o .device); answer = o .answer }
 
 unfoldable pub eventChip : Chip → Event → OutcomeChip
 eventChip c e = if c .z8536 then fromZ8536 (eventZ8536 (c .device) e) else fromZ8036 (eventOf (coreOf c) e)
+
+-- the same where it is known that the record is sound: of a Z8036 nothing asks again
+unfoldable pub knownChip : Chip → Event → OutcomeChip
+knownChip c e = if c .z8536 then fromZ8536 (eventZ8536 (c .device) e) else fromZ8036 (knownOf (coreOf c) e)

@@ -1,6 +1,6 @@
 // Either device, a Z8036 or a Z8536, and its event call.
 ghost use mathlib.Core.Path.{_≡_};
-ghost use Rattle.chip.specs.Chips.{ofZ8036, ofZ8536, coreOf, eventChip};
+ghost use Rattle.chip.specs.Chips.{ofZ8036, ofZ8536, coreOf, soundChip, eventChip, knownChip};
 use rules::Answer;
 use rules::Device;
 use rules::Event;
@@ -63,6 +63,36 @@ pub fn event(c: Chip, e: Event) -> OutcomeChip
         };
     }
     let o = event::event(c.core(), e);
+    let a = o.answer;
+    OutcomeChip {
+        device: Chip::of_z8036(o.device),
+        answer: a,
+    }
+}
+
+// Whether a record is sound.
+pub fn sound(c: Chip) -> bool
+    ensures { λ r. ⌜ r ≡ soundChip c ⌝ }
+{
+    if c.z8536 {
+        return z8536::sound(c.device);
+    }
+    refusals::sound(c.core())
+}
+
+// The event call for a record that is known to be sound.
+pub fn known(c: Chip, e: Event) -> OutcomeChip
+    ensures { λ r. ⌜ r ≡ knownChip c e ⌝ }
+{
+    if c.z8536 {
+        let o = event_z8536::event(c.device, e);
+        let a = o.answer;
+        return OutcomeChip {
+            device: Chip::of_z8536(o.device),
+            answer: a,
+        };
+    }
+    let o = event::known(c.core(), e);
     let a = o.answer;
     OutcomeChip {
         device: Chip::of_z8036(o.device),

@@ -1,4 +1,3 @@
 pub mod Halves
 pub mod Reaches
 pub mod First
-pub mod CaughtUp

@@ -14,7 +14,6 @@ ghost use Rattle.rules.specs.Report.{noReport};
 ghost use Rattle.rules.specs.Step.{linesAt, clockOf, ranOf};
 ghost use Rattle.theorems.specs.Moving.{Caught, comesTo, partAfter, sideAt, sideAfter, apart, runWith};
 ghost use Rattle.clocks.specs.Room.{Room};
-ghost use Rattle.clocks.specs.Catchers.{sameCatchers};
 use rules::Counter;
 use rules::Device;
 use rules::Pattern;
@@ -219,22 +218,6 @@ fn catching(n: u32, start: Ran) -> Ran
     reports::on_top(r, parts(n - 2, d))
 }
 
-// Whether two records have the same catchers.
-fn same_catchers(e: Device, d: Device) -> bool
-    ensures { λ r. ⌜ r ≡ sameCatchers e d ⌝ }
-{
-    (e.ports[0].catcher == d.ports[0].catcher)
-        & (e.ports[1].catcher == d.ports[1].catcher)
-        & (e.ports[2].catcher == d.ports[2].catcher)
-}
-
-// Whether the catchers have caught.
-fn has_caught(d: Device) -> bool
-    ensures { λ r. ⌜ (r ≡ true → Caught d) ⌝ }
-{
-    same_catchers(step::catch_all(d), d)
-}
-
 // n PCLK clocks.
 pub fn run(n: u32, d: Device) -> Ran
     ensures { λ r. ⌜ r ≡ ranOf n d ⌝ }
@@ -249,7 +232,7 @@ pub fn run(n: u32, d: Device) -> Ran
     if d.reset() {
         return start;
     }
-    if has_caught(d) {
+    if step::has_caught(d) {
         return parts(n, d);
     }
     catching(n, start)

@@ -10,14 +10,18 @@ use Rattle.rules.specs.declared.Device.{Device}
 use Rattle.rules.specs.declared.Event.{Event}
 use Rattle.rules.specs.Sound.{soundOf}
 use Rattle.rules.specs.Events.{isW, isP, isE, unknown, noRegister, tooLarge, codeOf}
+use Rattle.refusals.specs.Known.{knownCode}
 
 -- the tests up to 5, of which none passed
-none-passed : (s u n t : Bool) (rest : ℕ) → cond (not s) 9 (cond u 1 (cond n 2 (cond t 5 rest))) ≡ 0 → t ≡ false
-none-passed true false false false rest h = refl
-none-passed true false false true rest h = absurd (omega (arith, h))
-none-passed true false true t rest h = absurd (omega (arith, h))
-none-passed true true n t rest h = absurd (omega (arith, h))
-none-passed false u n t rest h = absurd (omega (arith, h))
+none-passed : (u n t : Bool) (rest : ℕ) → cond u 1 (cond n 2 (cond t 5 rest)) ≡ 0 → t ≡ false
+none-passed false false false rest h = refl
+none-passed false false true rest h = absurd (omega (arith, h))
+none-passed false true t rest h = absurd (omega (arith, h))
+none-passed true n t rest h = absurd (omega (arith, h))
+
+sound-first : (s : Bool) (rest : ℕ) → cond (not s) 9 rest ≡ 0 → rest ≡ 0
+sound-first true rest h = h
+sound-first false rest h = absurd (omega (arith, h))
 
 -- neither of two, and not the second where the first holds
 first-of : (a b : Bool) → (a || b) ≡ false → a ≡ false
@@ -32,11 +36,15 @@ but-not : (a b : Bool) → a ≡ true → (a && b) ≡ false → b ≡ false
 but-not true b p h = h
 but-not false b p h = absurd (false≢true p)
 
-module _ (d : Device) (e : Event) (h : codeOf d e ≡ 0) where
-  not-large : tooLarge e ≡ false
-  unfolding codeOf
-  not-large = none-passed (soundOf d) (unknown e) (noRegister e) (tooLarge e) _ h
+pub known-small : (d : Device) (e : Event) → knownCode d e ≡ 0 → tooLarge e ≡ false
+unfolding knownCode
+known-small d e h = none-passed (unknown e) (noRegister e) (tooLarge e) _ h
 
+pub accepted-small : (d : Device) (e : Event) → codeOf d e ≡ 0 → tooLarge e ≡ false
+unfolding codeOf knownCode
+accepted-small d e h = known-small d e (sound-first (soundOf d) _ h)
+
+module _ (e : Event) (not-large : tooLarge e ≡ false) where
   abbrev forW : Bool
   forW = isW e && ltb 255 (e .b)
 

@@ -1,3 +1,4 @@
 pub mod Accepted
 pub mod Resets
 pub mod Refused
+pub mod Knowing

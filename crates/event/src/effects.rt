@@ -1,10 +1,10 @@
 // What an accepted event does: the record, the value and the report.
 ghost use mathlib.Core.Path.{_≡_};
-ghost use mathlib.Core.Bool.{not, _&&_};
+ghost use mathlib.Core.Bool.{false, not, _&&_};
 ghost use Rattle.basics.specs.Signs.{_==_};
 ghost use Rattle.rules.specs.Registers.{reset};
 ghost use Rattle.rules.specs.Report.{noReport};
-ghost use Rattle.rules.specs.Events.{codeOf, effect as plain, writeEffect, readEffect, outsideSet, pinsEffect, clocksEffect, acknowledgeEffect, ieiEffect, effectOf};
+ghost use Rattle.rules.specs.Events.{tooLarge, effect as plain, writeEffect, readEffect, outsideSet, pinsEffect, clocksEffect, acknowledgeEffect, ieiEffect, effectOf};
 use rules::Device;
 use rules::Effect;
 use rules::Event;
@@ -39,14 +39,16 @@ fn is_held(d: Device, a: u32) -> bool
     d.reset() & !(a == 0x00)
 }
 
-fn write_effect(d: Device, a: u32, b: u8) -> Effect
+pub(crate) fn write_effect(d: Device, a: u32, b: u8) -> Effect
     ensures { λ r. ⌜ r ≡ writeEffect d a b ⌝ }
 {
     if is_held(d, a) {
         return effect(d, 0);
     }
-    let s = step::step(false, d, moves::moves(d, write_access::write(d, a, b)));
-    effect(s.device, 0)
+    effect(
+        step::untimed(d, moves::moves(d, write_access::write(d, a, b))),
+        0,
+    )
 }
 
 fn read_effect(d: Device, a: u32) -> Effect
@@ -76,8 +78,10 @@ fn with_outside(d: Device, a: u8, b: u8, c: u8) -> Device
 fn pins_effect(d: Device, a: u8, b: u8, c: u8) -> Effect
     ensures { λ r. ⌜ r ≡ pinsEffect d a b c ⌝ }
 {
-    let s = step::step(false, d, moves::moves(d, with_outside(d, a, b, c)));
-    effect(s.device, 0)
+    effect(
+        step::untimed(d, moves::moves(d, with_outside(d, a, b, c))),
+        0,
+    )
 }
 
 fn clocks_effect(d: Device, n: u32) -> Effect
@@ -107,9 +111,9 @@ fn iei_effect(d: Device, v: u32) -> Effect
     effect(after, 0)
 }
 
-// What an accepted event does.
+// What an accepted event does, none of whose numbers is too large.
 pub(crate) fn effect_of(d: Device, e: Event) -> Effect
-    requires { ⌜ codeOf d e ≡ 0 ⌝ }
+    requires { ⌜ tooLarge e ≡ false ⌝ }
     ensures { λ r. ⌜ r ≡ effectOf d e ⌝ }
 {
     let k = e.kind;

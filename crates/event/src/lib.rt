@@ -3,6 +3,7 @@ mod effects;
 
 ghost use mathlib.Core.Path.{_≡_};
 ghost use Rattle.rules.specs.Events.{relit, unsoundAnswer, outcomeOf, eventOf};
+ghost use Rattle.event.specs.Known.{knownOf};
 use rules::Answer;
 use rules::Device;
 use rules::Effect;
@@ -62,4 +63,18 @@ pub fn event(d: Device, e: Event) -> Outcome
         return outcome(0, effects::effect_of(d, e));
     }
     outcome(code, effects::effect(d, 0))
+}
+
+// The same of a record that is known to be sound, as every record is that an event of a sound one left: nothing asks again whether it is.
+pub fn known(d: Device, e: Event) -> Outcome
+    ensures { λ r. ⌜ r ≡ knownOf d e ⌝ }
+{
+    let code = refusals::known_code(d, e);
+    if code != 0 {
+        return outcome(code, effects::effect(d, 0));
+    }
+    if e.kind == Event::W {
+        return outcome(0, effects::write_effect(d, e.a, e.b as u8));
+    }
+    outcome(0, effects::effect_of(d, e))
 }

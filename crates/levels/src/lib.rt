@@ -3,11 +3,13 @@ mod handshake;
 mod port;
 
 ghost use mathlib.Core.Path.{_≡_};
+ghost use mathlib.Core.Bool.{false, _||_};
 ghost use Rattle.rules.specs.Record.{portAt, patternAt, transferAt};
 ghost use Rattle.rules.specs.Registers.{portOn, portEnabled, counterOn};
 ghost use Rattle.rules.specs.Handshakes.{inputs, outputs, handshakes, ackinAt, offersAt};
 ghost use Rattle.rules.specs.PortData.{directionAt, effectiveAt, valueAt, pinsAt, pathAt, seenAt, dataAt};
 ghost use Rattle.levels.specs.Outputs.{withOutputs};
+ghost use Rattle.levels.specs.Looks.{looksOf};
 use rules::Device;
 use rules::Port;
 
@@ -201,7 +203,15 @@ pub fn pins_at(d: Device, p: usize) -> u8
     port::pins(enabled, q, with_outputs(d, p, q.output))
 }
 
-// An input's pin shows the outside level.
+// Where no port has a handshake: the path value of port p, whose input's pin shows the outside level.
+fn own_path(d: Device, p: usize) -> u8
+    requires { ⌜ (handshakes (patternAt d 0) || handshakes (patternAt d 1)) ≡ false ⌝ }
+    ensures { λ r. ⌜ r ≡ pathAt d p ⌝ }
+{
+    let q = port_at(d, p);
+    port::path(q, q.outside, with_outputs(d, p, q.output))
+}
+
 pub fn path_at(d: Device, p: usize) -> u8
     ensures { λ r. ⌜ r ≡ pathAt d p ⌝ }
 {
@@ -211,8 +221,7 @@ pub fn path_at(d: Device, p: usize) -> u8
         let r = f.port;
         return port::path(r, r.outside, f.value);
     }
-    let q = port_at(d, p);
-    port::path(q, q.outside, with_outputs(d, p, q.output))
+    own_path(d, p)
 }
 
 pub fn seen_at(d: Device, p: usize) -> u8
@@ -220,6 +229,58 @@ pub fn seen_at(d: Device, p: usize) -> u8
 {
     let q = effective_at(d, p);
     port::seen(port_enabled(d, p), q, path_at(d, p))
+}
+
+// What a step compares: the path values of ports B and C, which have the counters' lines, and what the patterns of A and B see.
+pub struct Looks {
+    pub b: u8,
+    pub c: u8,
+    pub seen_a: u8,
+    pub seen_b: u8,
+}
+
+// Where no port has a handshake: what port p, with that path value, sees.
+fn own_seen(d: Device, p: usize, path: u8) -> u8
+    requires { ⌜ ((handshakes (patternAt d 0) || handshakes (patternAt d 1)) ≡ false) × (path ≡ pathAt d p) ⌝ }
+    ensures { λ r. ⌜ r ≡ seenAt d p ⌝ }
+{
+    let q = port_at(d, p);
+    port::seen(port_enabled(d, p), q, path)
+}
+
+fn own_looks(d: Device) -> Looks
+    requires { ⌜ (handshakes (patternAt d 0) || handshakes (patternAt d 1)) ≡ false ⌝ }
+    ensures { λ r. ⌜ r ≡ looksOf d ⌝ }
+{
+    let a = own_path(d, 0);
+    let b = own_path(d, 1);
+    Looks {
+        b: b,
+        c: own_path(d, 2),
+        seen_a: own_seen(d, 0, a),
+        seen_b: own_seen(d, 1, b),
+    }
+}
+
+fn all_looks(d: Device) -> Looks
+    ensures { λ r. ⌜ r ≡ looksOf d ⌝ }
+{
+    Looks {
+        b: path_at(d, 1),
+        c: path_at(d, 2),
+        seen_a: seen_at(d, 0),
+        seen_b: seen_at(d, 1),
+    }
+}
+
+pub fn look(d: Device) -> Looks
+    ensures { λ r. ⌜ r ≡ looksOf d ⌝ }
+{
+    if handshake::any(d) {
+        let e = d;
+        return all_looks(e);
+    }
+    own_looks(d)
 }
 
 pub fn data_at(d: Device, p: usize) -> u8

@@ -5,6 +5,7 @@ ghost use Rattle.basics.specs.Signs.{if_then_else_, _==_};
 ghost use Rattle.rules.specs.Registers.{readOnly, later};
 ghost use Rattle.rules.specs.Interrupts.{requester};
 ghost use Rattle.rules.specs.Events.{isW, isK, unknown, noRegister, tooLarge, held, noByte, noRoom, codeOf};
+ghost use Rattle.refusals.specs.Known.{knownCode};
 use crate::settings;
 use crate::soundness::sound;
 use rules::Device;
@@ -92,9 +93,9 @@ fn or_else(refused: bool, code: u8, rest: u8) -> u8
     rest
 }
 
-// "Order: 9, 1, 2, 5, reset hold, 3, 4, 6.", 11 after 3, 10 after 11, from the last to the first.
-pub fn code_of(d: Device, e: Event) -> u8
-    ensures { λ r. ⌜ r ≡ codeOf d e ⌝ }
+// "Order: 9, 1, 2, 5, reset hold, 3, 4, 6.", 11 after 3, 10 after 11, from the last to the first but one: of a record that is known to be sound.
+pub fn known_code(d: Device, e: Event) -> u8
+    ensures { λ r. ⌜ r ≡ knownCode d e ⌝ }
 {
     let from_6 = or_else(is_unrequested(d, e), 6, 0);
     let from_4 = or_else(is_later(d, e), 4, from_6);
@@ -104,6 +105,13 @@ pub fn code_of(d: Device, e: Event) -> u8
     let from_hold = or_else(is_held(d, e), 0, from_3);
     let from_5 = or_else(is_too_large(e), 5, from_hold);
     let from_2 = or_else(has_no_register(e), 2, from_5);
-    let from_1 = or_else(is_unknown(e), 1, from_2);
+    or_else(is_unknown(e), 1, from_2)
+}
+
+// And with the first.
+pub fn code_of(d: Device, e: Event) -> u8
+    ensures { λ r. ⌜ r ≡ codeOf d e ⌝ }
+{
+    let from_1 = known_code(d, e);
     or_else(!sound(d), 9, from_1)
 }

@@ -4,4 +4,5 @@ mod settings;
 mod soundness;
 
 pub use codes::code_of;
+pub use codes::known_code;
 pub use soundness::sound;

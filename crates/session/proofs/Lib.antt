@@ -1,3 +1,4 @@
 pub mod Telling
 pub mod Laws
 pub mod Feeding
+pub mod Staying

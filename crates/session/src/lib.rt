@@ -1,13 +1,16 @@
 // The session of the trace program: a device, what is kept of a line that has not ended, and answers in a lent buffer.
 ghost use mathlib.Core.Path.{_≡_};
-ghost use mathlib.Core.Bool.{cond};
+ghost use mathlib.Core.Bool.{true, cond};
 ghost use Prim.Native.Nat.{_+_, _≤_};
 ghost use lib.ListN.{length};
+ghost use Rattle.chip.specs.Chips.{soundChip, eventChip};
 ghost use Rattle.texts.specs.Answers.{answerText};
 ghost use Rattle.texts.specs.Kept.{textRoom};
 ghost use Rattle.basics.specs.Buffer.{fits, laidOf};
 ghost use Rattle.session.specs.Sessions.{outcomeBy, startOf, answersIn, answersLast, bytesRead, fedBy, answered, finishedBy, lineIn, lineFed};
 use chip::Chip;
+use chip::OutcomeChip;
+use rules::Event;
 use texts::Text;
 
 pub struct Session {
@@ -38,13 +41,25 @@ pub fn start(d: Chip) -> Session
     }
 }
 
+// An event of a device, of which `sound` may say that it is known to be sound.
+fn happens(sound: bool, d: Chip, e: Event) -> OutcomeChip
+    requires { ⌜ (sound ≡ true → soundChip d ≡ true) ⌝ }
+    ensures { λ r. ⌜ r ≡ eventChip d e ⌝ }
+{
+    if sound {
+        return chip::known(d, e);
+    }
+    chip::event(d, e)
+}
+
 // Says a line that is kept to the device, and lays the answer into the buffer from a place.
-fn tell(d: Chip, t: Text, out: &mut [u8], at: usize) -> Told
+fn tell(sound: bool, d: Chip, t: Text, out: &mut [u8], at: usize) -> Told
+    requires { ⌜ (sound ≡ true → soundChip d ≡ true) ⌝ }
     ensures { λ r. ⌜ r .device ≡ outcomeBy d t .device ⌝ }
     ensures { λ r. ⌜ now (out .exit) ≡ laidOf (now (out .entry)) at (answerText (outcomeBy d t .answer)) ⌝ }
     ensures { λ r. ⌜ r .len ≡ cond (fits (now (out .entry)) at (answerText (outcomeBy d t .answer))) (at + length (answerText (outcomeBy d t .answer))) at ⌝ }
 {
-    let o = chip::event(d, lines::event_of_line(t));
+    let o = happens(sound, d, lines::event_of_line(t));
     let e = o.device;
     let a = o.answer;
     let n = texts::lay(texts::answer_text(a), out, at);
@@ -64,8 +79,8 @@ fn told_on(f: Fed, next: usize, a: Told) -> Fed
 }
 
 // One line more of a piece, or what there is of one.
-fn take_line(f: Fed, piece: &[u8], out: &mut [u8]) -> Fed
-    requires { ⌜ f .len + textRoom ≤ length (now out) ⌝ }
+fn take_line(sound: bool, f: Fed, piece: &[u8], out: &mut [u8]) -> Fed
+    requires { ⌜ (f .len + textRoom ≤ length (now out)) × (sound ≡ true → soundChip (f .session .device) ≡ true) ⌝ }
     ensures { λ r. ⌜ r ≡ lineFed f (lineIn (now (piece .entry)) (f .next)) ⌝ }
     ensures { λ r. ⌜ now (out .exit) ≡ laidOf (now (out .entry)) (f .len) (answersIn (f .session) (lineIn (now (piece .entry)) (f .next))) ⌝ }
 {
@@ -75,7 +90,7 @@ fn take_line(f: Fed, piece: &[u8], out: &mut [u8]) -> Fed
     let c = lines::cut_from(t, piece, f.next);
     let u = c.text;
     if c.whole {
-        let a = tell(d, u, out, f.len);
+        let a = tell(sound, d, u, out, f.len);
         return told_on(f, c.next, a);
     }
     Fed {
@@ -85,19 +100,22 @@ fn take_line(f: Fed, piece: &[u8], out: &mut [u8]) -> Fed
     }
 }
 
-// A piece from a place on, up to its end or until an answer might find no room in the buffer.
+// A piece from a place on, up to its end or until an answer might find no room in the buffer. Whether the device is sound is asked once: an event
+// of a sound record leaves a sound one.
 pub fn feed(s: Session, piece: &[u8], at: usize, out: &mut [u8]) -> Fed
     ensures { λ r. ⌜ r ≡ fedBy s at (bytesRead s (now (piece .entry)) at (now (out .entry))) ⌝ }
     ensures { λ r. ⌜ now (out .exit) ≡ answered (answersIn s (bytesRead s (now (piece .entry)) at (now (out .entry)))) (now (out .entry)) ⌝ }
     ensures { λ r. ⌜ r .len ≤ length (now (out .exit)) ⌝ }
 {
+    let d = s.device;
+    let sound = chip::sound(d);
     let mut f = Fed {
         session: s,
         next: at,
         len: 0,
     };
     while (f.next < piece.len()) & (f.len + texts::ROOM <= out.len()) {
-        f = take_line(f, piece, out);
+        f = take_line(sound, f, piece, out);
     }
     f
 }
@@ -113,5 +131,5 @@ pub fn finish(s: Session, out: &mut [u8]) -> Told
     if t.len == 0 {
         return Told { device: d, len: 0 };
     }
-    tell(d, t, out, 0)
+    tell(false, d, t, out, 0)
 }

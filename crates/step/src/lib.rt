@@ -1,5 +1,6 @@
 // One step of a device, (a) to (f).
 mod pattern;
+mod still;
 
 ghost use mathlib.Core.Path.{_≡_};
 ghost use Prim.Native.Nat.{_<_};
@@ -19,6 +20,8 @@ use rules::Port;
 use rules::Source;
 use rules::Stepped;
 use rules::Turned;
+pub use still::has_caught;
+pub use still::untimed;
 
 // Whether an event came, and whether it was lost.
 fn came(f: Fate) -> bool

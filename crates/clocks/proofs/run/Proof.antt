@@ -1,8 +1,14 @@
-use mathlib.Core.Path.{refl, sym, _∙_}
+use mathlib.Core.Path.{_≡_, refl, sym, _∙_}
+use lib.ListN.{length}
 use Rattle.theorems.proofs.Reports.{ran-held}
+use Rattle.basics.proofs.Lists.{length-mapped as of-map}
+use Rattle.step.proofs.CaughtUp.{caught-up}
 use borrow.Author.Needs.{needs}
 use Rattle.clocks.proofs.run.Statement.{statement}
 use Rattle.clocks.proofs.run.Tie as tie
+
+three : (c : tie.Start) → length (c .args .d .ports) ≡ 3
+three c = search (needs, of-map)
 
 reset-requires : tie.Need-reset-requires
 reset-requires c κs = search needs
@@ -16,7 +22,7 @@ has-caught-requires c κs = search needs
 parts-requires : tie.Need-parts-requires
 parts-requires c κs =
     let at-if = c .before .before in
-    (c .before .has-caught .ensures (c .if2 .taken), sym (at-if .before .reset .ensures) ∙ at-if .if1 .left)
+    (caught-up _ (three (at-if .before .before)) (sym (c .before .has-caught .ensures) ∙ c .if2 .taken), sym (at-if .before .reset .ensures) ∙ at-if .if1 .left)
 
 returns-2 : tie.Need-returns-2
 returns-2 c = search needs

@@ -3,6 +3,7 @@ use mathlib.Core.Path.{sym, ap, _∙_}
 use lib.Dec.{eqb}
 use borrow.Author.Tests.{eq-eqb, ne-eqb}
 use Rattle.rules.specs.Events.{outcomeOf, eventOf}
+use Rattle.event.proofs.Accepted.{accepted-small}
 use Rattle.event.proofs.Refused.{as-it-was}
 use borrow.Author.Needs.{needs}
 use Rattle.event.proofs.event.Statement.{statement}
@@ -19,7 +20,7 @@ unfolding eventOf
 returns c = simp (← c .before .before .code-of .ensures, eq-eqb _ _ (c .before .if1 .taken), c .unsound .ensures)
 
 effect-of-requires : tie.Need-effect-of-requires
-effect-of-requires c κs = search needs
+effect-of-requires c κs = accepted-small _ _ (sym (c .before .before .code-of .ensures) ∙ c .if2 .taken)
 
 outcome-requires : tie.Need-outcome-requires
 outcome-requires c κs = search needs

@@ -1,4 +1,5 @@
 use mathlib.Core.Path.{sym, ap, _∙_}
+use mathlib.Core.Bool.{false≢true}
 use native.Mathlib.Omega.{arith}
 use borrow.Author.Needs.{needs}
 use denote.Ref.{now}
@@ -15,7 +16,7 @@ returns c =
     (finished-none (a .s) (now (a .out)) (c .if1 .taken), (sym (ap (laidOf (now (a .out)) 0) z ∙ laid-none (now (a .out)) 0), omega arith))
 
 tell-requires : tie.Need-tell-requires
-tell-requires c κs = search needs
+tell-requires c κs = λ e. absurd (false≢true e)
 
 same-length : tie.Need-same-length
 same-length c = search needs
@@ -29,7 +30,7 @@ returns-2 c =
     let e = finished-some (a .s) (now (a .out)) (c .before .before .tell .result) some (told .0) (told .1 .1) in
     let n = ap (λ (r : Told). r .len) e in
     let w = finished-within (a .s) (now (a .out)) in
-    (e, (told .1 .0 ∙ ap (laidOf (now (a .out)) 0) (sym (last-some (a .s) some)), omega (arith, c .before .before .tell .kept .1 .1 .0)))
+    (e, (told .1 .0 ∙ ap (laidOf (now (a .out)) 0) (sym (last-some (a .s) some)), omega (arith, c .before .before .tell .kept .1 .1 .1 .0)))
 
 pub finish-spec : {M : Type 1} → statement M
 finish-spec = tie.close (tie.spec returns tell-requires same-length returns-2)

@@ -11,7 +11,7 @@ cut-from-requires : tie.Need-cut-from-requires
 cut-from-requires c κs = search needs
 
 tell-requires : tie.Need-tell-requires
-tell-requires c κs = search needs
+tell-requires c κs = c .before .before .before .before .before .before .before .before .before .pre .1
 
 told-on-requires : tie.Need-told-on-requires
 told-on-requires c κs = search needs
@@ -30,7 +30,7 @@ returns c =
     let told = at-tell .tell .ensures in
     let on = c .told-on .ensures in (
       fed-is _ _ _ _ (on .0 ∙ ap startOf (told .0)) (on .1 .0) (on .1 .1 ∙ told .1 .1)
-          ∙ whole-fed (a .f) (now (a .piece)) (now (a .out)) (at-cut .cut-from .result) e w (at-cut .before .before .before .before .before .before .pre),
+          ∙ whole-fed (a .f) (now (a .piece)) (now (a .out)) (at-cut .cut-from .result) e w (at-cut .before .before .before .before .before .before .pre .0),
       told .1 .0 ∙ ap (laidOf (now (a .out)) (a .f .len)) (sym (whole-line (a .f) (now (a .piece)) (now (a .out)) (at-cut .cut-from .result) e w)),
     )
 

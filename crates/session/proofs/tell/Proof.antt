@@ -18,8 +18,8 @@ use Rattle.session.proofs.tell.Tie as tie
 event-of-line-requires : tie.Need-event-of-line-requires
 event-of-line-requires c κs = search needs
 
-event-requires : tie.Need-event-requires
-event-requires c κs = search needs
+happens-requires : tie.Need-happens-requires
+happens-requires c κs = c .before .before .pre
 
 answer-text-requires : tie.Need-answer-text-requires
 answer-text-requires c κs = search needs
@@ -36,10 +36,10 @@ returns c =
     let x = l .before .before in
     let v = x .before .before .before in
     let a = v .before .before .before .args in
-    let o : v .event .result ≡ outcomeBy (a .d) (a .t) =
-    v .event .ensures ∙ ap (eventChip (a .d)) (v .before .event-of-line .ensures) in
+    let o : v .happens .result ≡ outcomeBy (a .d) (a .t) =
+    v .happens .ensures ∙ ap (eventChip (a .d)) (v .before .event-of-line .ensures) in
     let w : bytesOf (x .answer-text .result) ≡ answerText (outcomeBy (a .d) (a .t) .answer) =
-    ap bytesOf (x .answer-text .ensures) ∙ answer-bytes (v .event .result .answer) ∙ ap (λ (r : OutcomeChip). answerText (r .answer)) o in (
+    ap bytesOf (x .answer-text .ensures) ∙ answer-bytes (v .happens .result .answer) ∙ ap (λ (r : OutcomeChip). answerText (r .answer)) o in (
       ap (λ (r : OutcomeChip). r .device) o,
       (l .lay .ensures .0 ∙ ap (laidOf (now (a .out)) (a .at)) w, l .lay .ensures .1 ∙ ap (λ (b : List ℕ). cond (fits (now (a .out)) (a .at) b) (a .at + length b) (a .at)) w),
     )
@@ -49,7 +49,7 @@ tell-spec =
     tie.close
     (tie.spec
     event-of-line-requires
-    event-requires
+    happens-requires
     answer-text-requires
     lay-requires
     same-length

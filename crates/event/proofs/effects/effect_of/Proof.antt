@@ -11,7 +11,7 @@ write-effect-requires : tie.Need-write-effect-requires
 write-effect-requires c κs = search needs
 
 cast-write-effect : tie.Need-cast-write-effect
-cast-write-effect c = record { fits = a-byte _ _ (c .before .before .pre) (c .before .match .keys2) }
+cast-write-effect c = record { fits = a-byte _ (c .before .before .pre) (c .before .match .keys2) }
 
 write-effect-requires-2 : tie.Need-write-effect-requires-2
 write-effect-requires-2 c κs = search needs
@@ -20,13 +20,13 @@ read-effect-requires : tie.Need-read-effect-requires
 read-effect-requires c κs = search needs
 
 cast-pins-effect : tie.Need-cast-pins-effect
-cast-pins-effect c = record { fits = pin-levels _ _ (c .before .before .pre) (c .before .match .keys4) .0 }
+cast-pins-effect c = record { fits = pin-levels _ (c .before .before .pre) (c .before .match .keys4) .0 }
 
 cast-pins-effect-2 : tie.Need-cast-pins-effect-2
-cast-pins-effect-2 c = record { fits = pin-levels _ _ (c .before .before .before .pre) (c .before .before .match .keys4) .1 }
+cast-pins-effect-2 c = record { fits = pin-levels _ (c .before .before .before .pre) (c .before .before .match .keys4) .1 }
 
 cast-pins-effect-3 : tie.Need-cast-pins-effect-3
-cast-pins-effect-3 c = omega (arith, pin-levels _ _ (c .before .before .before .before .pre) (c .before .before .before .match .keys4) .2)
+cast-pins-effect-3 c = omega (arith, pin-levels _ (c .before .before .before .before .pre) (c .before .before .before .match .keys4) .2)
 
 pins-effect-requires : tie.Need-pins-effect-requires
 pins-effect-requires c κs = search needs

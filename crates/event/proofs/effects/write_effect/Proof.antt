@@ -20,8 +20,8 @@ write-requires c κs = search needs
 moves-requires : tie.Need-moves-requires
 moves-requires c κs = search needs
 
-step-requires : tie.Need-step-requires
-step-requires c κs = search needs
+untimed-requires : tie.Need-untimed-requires
+untimed-requires c κs = search needs
 
 effect-requires-2 : tie.Need-effect-requires-2
 effect-requires-2 c κs = search needs
@@ -36,7 +36,7 @@ returns-2 c =
       sym (at-if .before .is-held .ensures) ∙ at-if .if1 .left,
       at-write .write .ensures,
       at-moves .moves .ensures,
-      c .before .step .ensures,
+      c .before .untimed .ensures,
       c .effect2 .ensures,
     )
 
@@ -49,6 +49,6 @@ write-effect-spec =
     returns
     write-requires
     moves-requires
-    step-requires
+    untimed-requires
     effect-requires-2
     returns-2)

@@ -11,8 +11,7 @@ use Rattle.rules.specs.declared.Port.{Port}
 use Rattle.rules.specs.With.{withCatcher, withPorts}
 use Rattle.rules.specs.Record.{bare, portAt}
 use Rattle.rules.specs.Step.{caughtAt, catchers}
-use Rattle.theorems.specs.Moving.{Caught}
-use Rattle.clocks.specs.Catchers.{sameCatchers}
+use Rattle.step.specs.Still.{sameCatchers, hasCaught}
 use Rattle.basics.proofs.Lists.{three}
 use Rattle.basics.proofs.Tests.{triple}
 
@@ -20,10 +19,10 @@ kept : (d : Device) (p : ℕ) → caughtAt d p .catcher ≡ portAt d p .catcher 
 unfolding caughtAt
 kept d p h = ap (withCatcher (portAt d p)) h
 
-pub caught-up : (d e : Device) → length (d .ports) ≡ 3 → e ≡ catchers d → sameCatchers e d ≡ true → Caught d
-unfolding catchers
-caught-up d e n is t =
-    let all = triple _ _ _ (ap (λ (f : Device). sameCatchers f d) (sym is) ∙ t) in
+pub caught-up : (d : Device) → length (d .ports) ≡ 3 → hasCaught d ≡ true → catchers d ≡ d
+unfolding catchers hasCaught
+caught-up d n t =
+    let all = triple _ _ _ t in
     let a = kept d 0 (eqb-true _ _ (all .0)) in
     let b = kept d 1 (eqb-true _ _ (all .1)) in
     let c = kept d 2 (eqb-true _ _ (all .2)) in
