@@ -4,12 +4,14 @@ mod effects;
 mod serving;
 
 ghost use mathlib.Core.Path.{_≡_};
+ghost use Rattle.ctc_rules.specs.Interrupts.{linesCtc};
 ghost use Rattle.ctc_rules.specs.Events.{noChannel, tooLargeCtc, codeCtc, outcomeCtc, unsoundCtc, eventCtc, endOfService};
 use ctc_rules::Ctc;
 use ctc_rules::CtcAnswer;
 use ctc_rules::CtcEffect;
 use ctc_rules::CtcOutcome;
 use rules::Event;
+use rules::Lines;
 
 fn has_no_channel(e: Event) -> bool
     ensures { λ r. ⌜ r ≡ noChannel e ⌝ }
@@ -105,4 +107,15 @@ pub fn end_of_service(d: Ctc) -> CtcOutcome
         return outcome(0, effects::plain(serving::released(d), 0));
     }
     unsound(d)
+}
+
+// INT, IEO and the highest requester's place, without an event.
+pub fn lines(d: Ctc) -> Lines
+    ensures { λ r. ⌜ r ≡ linesCtc d ⌝ }
+{
+    Lines {
+        int: serving::requester(d) != serving::NONE,
+        ieo: serving::ieo(d),
+        place: serving::place(d),
+    }
 }

@@ -2,7 +2,7 @@
 ghost use mathlib.Core.Path.{_≡_};
 ghost use Prim.Native.Nat.{_<_, _≤_};
 ghost use Rattle.ctc_rules.specs.Record.{channelAt};
-ghost use Rattle.ctc_rules.specs.Interrupts.{firstTest, firstFour, pendingAt, servingCtc, requestsAt, requesterCtc, ieoCtc, acknowledgedCtc, vectorCtc, releasedCtc};
+ghost use Rattle.ctc_rules.specs.Interrupts.{firstTest, firstFour, pendingAt, servingCtc, requestsAt, requesterCtc, ieoCtc, placeCtc, acknowledgedCtc, vectorCtc, releasedCtc};
 use ctc_rules::Channel;
 use ctc_rules::Ctc;
 
@@ -90,6 +90,17 @@ pub(crate) fn ieo(d: Ctc) -> bool
     ensures { λ r. ⌜ r ≡ ieoCtc d ⌝ }
 {
     d.iei & (pending(d) == NONE) & (serving(d) == NONE)
+}
+
+// The place of the highest requester in order, 1 to 4, or 0.
+pub(crate) fn place(d: Ctc) -> u8
+    ensures { λ r. ⌜ r ≡ placeCtc d ⌝ }
+{
+    let i = requester(d);
+    if i == NONE {
+        return 0;
+    }
+    1 + (i as u8)
 }
 
 // The record after an acknowledge: as it was where none requests.

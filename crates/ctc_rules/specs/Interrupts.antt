@@ -4,6 +4,7 @@ use Prim.Native.Nat.{ℕ, _+_, _*_, _/_}
 use mathlib.Core.Bool.{Bool, true, false, not, _&&_}
 use lib.Dec.{ltb}
 use Rattle.basics.specs.Signs.{if_then_else_, _==_}
+use Rattle.rules.specs.declared.Lines.{Lines}
 use Rattle.ctc_rules.specs.declared.Ctc.{Ctc}
 use Rattle.ctc_rules.specs.Set.{setIp, setIus, setChannel}
 use Rattle.ctc_rules.specs.Record.{interruptOn, channelAt}
@@ -39,6 +40,13 @@ intCtc d = not (requesterCtc d == 4)
 -- "IEO: IEI, no request pending, no IUS anywhere."
 unfoldable pub ieoCtc : Ctc → Bool
 ieoCtc d = d .iei && firstFour (pendingAt d) == 4 && servingCtc d == 4
+
+-- INT, IEO and "the highest requester's place in order", as W-208 has them of the Z8036: 1 to 4, 0 if none. A CTC does not store them.
+unfoldable pub placeCtc : Ctc → ℕ
+placeCtc d = if requesterCtc d == 4 then 0 else 1 + requesterCtc d
+
+unfoldable pub linesCtc : Ctc → Lines
+linesCtc d = record { int = intCtc d; ieo = ieoCtc d; place = placeCtc d }
 
 -- "K sets IUS of the highest requester, clears its IP, and gives the vector with the channel's number in D2-D1."; nothing where none requests
 unfoldable pub acknowledgedCtc : Ctc → Ctc

@@ -12,18 +12,21 @@ use Rattle.basics.specs.Buffer.{fits, laidOf}
 use Rattle.basics.specs.Byte.{byteIn, byteOf, withByte}
 use Rattle.basics.specs.Iterate.{iterate}
 use Rattle.bodies.specs.Taken.{statesAgree, recordIn, unusedClear}
-use Rattle.bodies.specs.Written.{bodiesOf}
+use Rattle.bodies.specs.Written.{bodiesOf, imageOf}
 use Rattle.chip.specs.Chips.{coreOf, eventChip, ofZ8036, ofZ8536}
 use Rattle.chip_image.specs.ChipImage.{lengthChip, restoredChip, saveCodeChip, savedChip}
 use Rattle.ctc_image.specs.Image.{restoredCtc, saveCodeCtc, savedCtc}
+use Rattle.ctc_image.specs.Layout.{imageCtc}
 use Rattle.ctc_lines.specs.Answers.{ctcText}
 use Rattle.ctc_lines.specs.Lines.{outcomeKept}
 use Rattle.ctc_rules.specs.Events.{endOfService, eventCtc}
+use Rattle.ctc_rules.specs.Interrupts.{linesCtc}
 use Rattle.ctc_rules.specs.Record.{freshCtc}
 use Rattle.ctc_rules.specs.Sound.{soundCtc}
 use Rattle.ctc_words.specs.Shown.{shownCtc}
+use Rattle.host.specs.Calls.{Called, called, freshCode, freshState, hostEndCtc, hostEvent, hostEventCtc, hostEventZ8536, hostLines, hostLinesCtc, hostLinesZ8536, lengthAt}
 use Rattle.image.specs.Image.{agree, restoredOf, saveCode, savedOf}
-use Rattle.image.specs.Pointed.{restoredZ8536, saveCodeZ8536, savedZ8536}
+use Rattle.image.specs.Pointed.{imageZ8536, restoredZ8536, saveCodeZ8536, savedZ8536}
 use Rattle.input.specs.Input.{unread}
 use Rattle.lines.specs.Lines.{eventIn, saysOf}
 use Rattle.lines.specs.Pieces.{cutFrom}
@@ -50,6 +53,7 @@ use Rattle.rules.specs.With.{device}
 use Rattle.session.specs.Sessions.{answered, answersIn, answersLast, bytesRead, fedBy, finishedBy, startOf}
 use Rattle.theorems.specs.Alone.{aloneAfter, placedBy, struckBy}
 use Rattle.theorems.specs.Moving.{pairOf, pairedBy}
+use Rattle.theorems.specs.Used.{of}
 use Rattle.texts.specs.Answers.{answerText, decimalText, glyphOf, levelsText}
 use Rattle.texts.specs.Kept.{bytesOf, noText, pushed, typed}
 use Rattle.words.specs.Shown.{pointerLine, shownLine}
@@ -94,10 +98,22 @@ use Rattle.ctc_rules.proofs.Ctc.fresh as ctc-rules·Ctc-fresh
 use Rattle.ctc_rules.proofs.sound as ctc-rules·sound
 use Rattle.ctc_event.proofs.event as ctc-event·event
 use Rattle.ctc_event.proofs.end_of_service as ctc-event·end-of-service
+use Rattle.ctc_event.proofs.lines as ctc-event·lines
 use Rattle.ctc_place.proofs.event_in_place as ctc-place·event-in-place
 use Rattle.ctc_place.proofs.end_of_service_in_place as ctc-place·end-of-service-in-place
 use Rattle.ctc_image.proofs.save as ctc-image·save
 use Rattle.ctc_image.proofs.restore as ctc-image·restore
+use Rattle.host.proofs.wolfscarer_length as host·length
+use Rattle.host.proofs.wolfscarer_z8036_fresh as host·z8036-fresh
+use Rattle.host.proofs.wolfscarer_z8036_event as host·z8036-event
+use Rattle.host.proofs.wolfscarer_z8036_lines as host·z8036-lines
+use Rattle.host.proofs.wolfscarer_z8536_fresh as host·z8536-fresh
+use Rattle.host.proofs.wolfscarer_z8536_event as host·z8536-event
+use Rattle.host.proofs.wolfscarer_z8536_lines as host·z8536-lines
+use Rattle.host.proofs.wolfscarer_ctc_fresh as host·ctc-fresh
+use Rattle.host.proofs.wolfscarer_ctc_event as host·ctc-event
+use Rattle.host.proofs.wolfscarer_ctc_end_of_service as host·ctc-end-of-service
+use Rattle.host.proofs.wolfscarer_ctc_lines as host·ctc-lines
 use Rattle.ctc_lines.proofs.outcome as ctc-lines·outcome
 use Rattle.ctc_lines.proofs.answer_text as ctc-lines·answer-text
 use Rattle.ctc_words.proofs.line as ctc-words·line
@@ -301,6 +317,72 @@ module _ {M : Type 1} (𝓤 : URA M) where
 
   pub ctc-event-end-of-service : OneResult 𝓤 ctc-event·end-of-service.ended (ctc-event·end-of-service.clauses 𝓤)
   ctc-event-end-of-service = one-result 𝓤 ctc-event·end-of-service.ended (ctc-event·end-of-service.clauses 𝓤) (λ κs a. endOfService (a .0)) refl
+
+  pub ctc-event-lines : OneResult 𝓤 ctc-event·lines.ended (ctc-event·lines.clauses 𝓤)
+  ctc-event-lines = one-result 𝓤 ctc-event·lines.ended (ctc-event·lines.clauses 𝓤) (λ κs a. linesCtc (a .0)) refl
+
+  pub host-wolfscarer-length : OneResult 𝓤 host·length.ended (host·length.clauses 𝓤)
+  host-wolfscarer-length = one-result 𝓤 host·length.ended (host·length.clauses 𝓤) (λ κs a. lengthAt (a .0)) refl
+
+  pub host-wolfscarer-z8036-fresh : OneAnswer 𝓤 host·z8036-fresh.ended (host·z8036-fresh.clauses 𝓤) (λ κs. ℕ × List ℕ) (λ κs r x. (r, now (x .0)))
+  host-wolfscarer-z8036-fresh =
+      one-answer 𝓤 host·z8036-fresh.ended (host·z8036-fresh.clauses 𝓤) (λ κs. ℕ × List ℕ) (λ κs r x. (r, now (x .0)))
+      (λ κs a. (freshCode (imageOf freshOf) (now (a .0)), freshState (imageOf freshOf) (now (a .0))))
+      (λ H A at-mem run κs a g r x. fact-mono 𝓤 _ _ (λ p i. (p .0 i, p .1 i)))
+
+  pub host-wolfscarer-z8036-event : OneAnswer 𝓤 host·z8036-event.ended (host·z8036-event.clauses 𝓤) (λ κs. Called) (λ κs r x. called r (now (x .0)) (now (x .1 .1 .1 .1 .1 .0)))
+  host-wolfscarer-z8036-event =
+      one-answer 𝓤 host·z8036-event.ended (host·z8036-event.clauses 𝓤) (λ κs. Called) (λ κs r x. called r (now (x .0)) (now (x .1 .1 .1 .1 .1 .0)))
+      (λ κs a. hostEvent (now (a .0)) (of (a .1 .0) (a .1 .1 .0) (a .1 .1 .1 .0) (a .1 .1 .1 .1 .0)) (now (a .1 .1 .1 .1 .1 .0)))
+      (λ H A at-mem run κs a g r x. fact-mono 𝓤 _ _ (λ p. p))
+
+  pub host-wolfscarer-z8036-lines : OneAnswer 𝓤 host·z8036-lines.ended (host·z8036-lines.clauses 𝓤) (λ κs. ℕ × List ℕ) (λ κs r x. (r, now (x .1 .0)))
+  host-wolfscarer-z8036-lines =
+      one-answer 𝓤 host·z8036-lines.ended (host·z8036-lines.clauses 𝓤) (λ κs. ℕ × List ℕ) (λ κs r x. (r, now (x .1 .0)))
+      (λ κs a. (hostLines (now (a .0)) (now (a .1 .0)) .code, hostLines (now (a .0)) (now (a .1 .0)) .answer))
+      (λ H A at-mem run κs a g r x. fact-mono 𝓤 _ _ (λ p i. (p i .code, p i .answer)))
+
+  pub host-wolfscarer-z8536-fresh : OneAnswer 𝓤 host·z8536-fresh.ended (host·z8536-fresh.clauses 𝓤) (λ κs. ℕ × List ℕ) (λ κs r x. (r, now (x .0)))
+  host-wolfscarer-z8536-fresh =
+      one-answer 𝓤 host·z8536-fresh.ended (host·z8536-fresh.clauses 𝓤) (λ κs. ℕ × List ℕ) (λ κs r x. (r, now (x .0)))
+      (λ κs a. (freshCode (imageZ8536 freshZ8536) (now (a .0)), freshState (imageZ8536 freshZ8536) (now (a .0))))
+      (λ H A at-mem run κs a g r x. fact-mono 𝓤 _ _ (λ p i. (p .0 i, p .1 i)))
+
+  pub host-wolfscarer-z8536-event : OneAnswer 𝓤 host·z8536-event.ended (host·z8536-event.clauses 𝓤) (λ κs. Called) (λ κs r x. called r (now (x .0)) (now (x .1 .1 .1 .1 .1 .0)))
+  host-wolfscarer-z8536-event =
+      one-answer 𝓤 host·z8536-event.ended (host·z8536-event.clauses 𝓤) (λ κs. Called) (λ κs r x. called r (now (x .0)) (now (x .1 .1 .1 .1 .1 .0)))
+      (λ κs a. hostEventZ8536 (now (a .0)) (of (a .1 .0) (a .1 .1 .0) (a .1 .1 .1 .0) (a .1 .1 .1 .1 .0)) (now (a .1 .1 .1 .1 .1 .0)))
+      (λ H A at-mem run κs a g r x. fact-mono 𝓤 _ _ (λ p. p))
+
+  pub host-wolfscarer-z8536-lines : OneAnswer 𝓤 host·z8536-lines.ended (host·z8536-lines.clauses 𝓤) (λ κs. ℕ × List ℕ) (λ κs r x. (r, now (x .1 .0)))
+  host-wolfscarer-z8536-lines =
+      one-answer 𝓤 host·z8536-lines.ended (host·z8536-lines.clauses 𝓤) (λ κs. ℕ × List ℕ) (λ κs r x. (r, now (x .1 .0)))
+      (λ κs a. (hostLinesZ8536 (now (a .0)) (now (a .1 .0)) .code, hostLinesZ8536 (now (a .0)) (now (a .1 .0)) .answer))
+      (λ H A at-mem run κs a g r x. fact-mono 𝓤 _ _ (λ p i. (p i .code, p i .answer)))
+
+  pub host-wolfscarer-ctc-fresh : OneAnswer 𝓤 host·ctc-fresh.ended (host·ctc-fresh.clauses 𝓤) (λ κs. ℕ × List ℕ) (λ κs r x. (r, now (x .0)))
+  host-wolfscarer-ctc-fresh =
+      one-answer 𝓤 host·ctc-fresh.ended (host·ctc-fresh.clauses 𝓤) (λ κs. ℕ × List ℕ) (λ κs r x. (r, now (x .0)))
+      (λ κs a. (freshCode (imageCtc freshCtc) (now (a .0)), freshState (imageCtc freshCtc) (now (a .0))))
+      (λ H A at-mem run κs a g r x. fact-mono 𝓤 _ _ (λ p i. (p .0 i, p .1 i)))
+
+  pub host-wolfscarer-ctc-event : OneAnswer 𝓤 host·ctc-event.ended (host·ctc-event.clauses 𝓤) (λ κs. Called) (λ κs r x. called r (now (x .0)) (now (x .1 .1 .1 .1 .1 .0)))
+  host-wolfscarer-ctc-event =
+      one-answer 𝓤 host·ctc-event.ended (host·ctc-event.clauses 𝓤) (λ κs. Called) (λ κs r x. called r (now (x .0)) (now (x .1 .1 .1 .1 .1 .0)))
+      (λ κs a. hostEventCtc (now (a .0)) (of (a .1 .0) (a .1 .1 .0) (a .1 .1 .1 .0) (a .1 .1 .1 .1 .0)) (now (a .1 .1 .1 .1 .1 .0)))
+      (λ H A at-mem run κs a g r x. fact-mono 𝓤 _ _ (λ p. p))
+
+  pub host-wolfscarer-ctc-end-of-service : OneAnswer 𝓤 host·ctc-end-of-service.ended (host·ctc-end-of-service.clauses 𝓤) (λ κs. Called)
+      (λ κs r x. called r (now (x .0)) (now (x .1 .0)))
+  host-wolfscarer-ctc-end-of-service =
+      one-answer 𝓤 host·ctc-end-of-service.ended (host·ctc-end-of-service.clauses 𝓤) (λ κs. Called) (λ κs r x. called r (now (x .0)) (now (x .1 .0)))
+      (λ κs a. hostEndCtc (now (a .0)) (now (a .1 .0))) (λ H A at-mem run κs a g r x. fact-mono 𝓤 _ _ (λ p. p))
+
+  pub host-wolfscarer-ctc-lines : OneAnswer 𝓤 host·ctc-lines.ended (host·ctc-lines.clauses 𝓤) (λ κs. ℕ × List ℕ) (λ κs r x. (r, now (x .1 .0)))
+  host-wolfscarer-ctc-lines =
+      one-answer 𝓤 host·ctc-lines.ended (host·ctc-lines.clauses 𝓤) (λ κs. ℕ × List ℕ) (λ κs r x. (r, now (x .1 .0)))
+      (λ κs a. (hostLinesCtc (now (a .0)) (now (a .1 .0)) .code, hostLinesCtc (now (a .0)) (now (a .1 .0)) .answer))
+      (λ H A at-mem run κs a g r x. fact-mono 𝓤 _ _ (λ p i. (p i .code, p i .answer)))
 
   pub ctc-place-event-in-place : OneAnswer 𝓤 ctc-place·event-in-place.ended (ctc-place·event-in-place.clauses 𝓤) (λ κs. CtcAnswer × Ctc) (λ κs r x. (r, now (x .0)))
   ctc-place-event-in-place =

@@ -1,0 +1,30 @@
+use borrow.Author.Needs.{needs}
+use denote.Ref.{now}
+use Rattle.host.proofs.Fresh.{z8036-other, z8036-same}
+use Rattle.host.proofs.wolfscarer_z8036_fresh.Statement.{statement}
+use Rattle.host.proofs.wolfscarer_z8036_fresh.Tie as tie
+
+returns : tie.Need-returns
+returns c =
+    let a = c .before .before .args in z8036-other (now (a .state)) (c .if1 .taken)
+
+fresh-requires : tie.Need-fresh-requires
+fresh-requires c κs = search needs
+
+save-requires : tie.Need-save-requires
+save-requires c κs = search needs
+
+same-length : tie.Need-same-length
+same-length c = search needs
+
+returns-2 : tie.Need-returns-2
+returns-2 c =
+    let saved = c .before .before in
+    let made = saved .before .before in
+    let at-if1 = made .before in
+    let a = at-if1 .before .before .args in
+    z8036-same (now (a .state)) (at-if1 .if1 .left) _ _ _ (made .fresh .ensures) (saved .save .ensures .0) (saved .save .ensures .1)
+
+pub wolfscarer-z8036-fresh-spec : {M : Type 1} → statement M
+wolfscarer-z8036-fresh-spec =
+    tie.close (tie.spec returns fresh-requires save-requires same-length returns-2)
