@@ -40,8 +40,8 @@ fn why(error: i32) -> usize {
     5
 }
 
-// What the call before this one failed at.
-pub(crate) fn trouble(report: i32, path: &[u8], writing: bool) {
+// A line that says what the call before this one failed at.
+pub fn trouble(report: i32, path: &[u8], writing: bool) {
     let error = os::errno();
     say(report, path, phrases::trouble_line(writing, why(error)));
 }

@@ -7,6 +7,7 @@ use ctc_rules::Ctc;
 pub use files::keep;
 pub use files::keep_ctc;
 pub use files::load;
+pub use files::trouble;
 use rules::Device;
 
 // A device, and whether there is one; where not, a line has said why. A CTC is in `ctc`, beside a fresh Z8036; any other in `device`,
@@ -27,7 +28,7 @@ fn show_all(d: Device, out: i32) {
 }
 
 // A device in words: of a Z8536 its pointer, then its core.
-fn show_device(c: Chip, out: i32) {
+pub fn show_device(c: Chip, out: i32) {
     let z = c.device;
     if c.z8536 {
         print(out, words::pointer_line(z.pointer, z.pointed));

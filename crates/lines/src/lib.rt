@@ -4,6 +4,8 @@ mod pieces;
 mod reading;
 
 pub use pieces::cut_from;
+pub use reading::decimal;
+pub use reading::digit;
 pub use reading::event_of_line;
 use rules::Event;
 use texts::Text;

@@ -18,7 +18,8 @@ fn said(kind: u32, a: u32, b: u32, c: u32) -> Line
     Line::Said(Event { kind, a, b, c })
 }
 
-fn digit(b: u8) -> u32
+// The value of a digit, `0` to `9` and `A` to `F`; 16 of any other byte.
+pub fn digit(b: u8) -> u32
     ensures { λ r. ⌜ (r ≡ digitOf b) × (r ≤ 16) ⌝ }
 {
     if (b'0' <= b) & (b <= b'9') {
@@ -113,6 +114,13 @@ fn clocks_in(s: &[u8], from: usize) -> u64
         i += 1;
     }
     n
+}
+
+// The number of decimal digits and no other bytes, or 4,294,967,296.
+pub fn decimal(s: &[u8]) -> u64
+    ensures { λ r. ⌜ r ≡ clocksIn (now (s .entry)) ⌝ }
+{
+    clocks_in(s, 0)
 }
 
 // What follows the letter T.

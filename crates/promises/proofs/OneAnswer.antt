@@ -11,6 +11,8 @@ use mathlib.Core.Path.{refl}
 use Rattle.basics.specs.Buffer.{fits, laidOf}
 use Rattle.basics.specs.Byte.{byteIn, byteOf, withByte}
 use Rattle.basics.specs.Iterate.{iterate}
+use Rattle.bench_lines.specs.Compared.{comparedKept, comparedOf}
+use Rattle.bench_lines.specs.Names.{nameOf}
 use Rattle.bodies.specs.Taken.{statesAgree, recordIn, unusedClear}
 use Rattle.bodies.specs.Written.{bodiesOf, imageOf}
 use Rattle.chip.specs.Chips.{coreOf, eventChip, ofZ8036, ofZ8536}
@@ -28,7 +30,7 @@ use Rattle.host.specs.Calls.{Called, called, freshCode, freshState, hostEndCtc,
 use Rattle.image.specs.Image.{agree, restoredOf, saveCode, savedOf}
 use Rattle.image.specs.Pointed.{imageZ8536, restoredZ8536, saveCodeZ8536, savedZ8536}
 use Rattle.input.specs.Input.{unread}
-use Rattle.lines.specs.Lines.{eventIn, saysOf}
+use Rattle.lines.specs.Lines.{clocksIn, digitOf, eventIn, saysOf}
 use Rattle.lines.specs.Pieces.{cutFrom}
 use Rattle.measure.specs.Measure.{measureStart, measuredOf, tableOf}
 use Rattle.phrases.specs.Refusals.{refusal, trouble}
@@ -183,7 +185,12 @@ use Rattle.levels.proofs.pins_at as levels·pins-at
 use Rattle.levels.proofs.path_at as levels·path-at
 use Rattle.levels.proofs.seen_at as levels·seen-at
 use Rattle.levels.proofs.data_at as levels·data-at
+use Rattle.bench_lines.proofs.compare as bench-lines·compare
+use Rattle.bench_lines.proofs.compare_kept as bench-lines·compare-kept
+use Rattle.bench_lines.proofs.field_name as bench-lines·field-name
 use Rattle.lines.proofs.cut_from as lines·cut-from
+use Rattle.lines.proofs.decimal as lines·decimal
+use Rattle.lines.proofs.digit as lines·digit
 use Rattle.lines.proofs.event_of_line as lines·event-of-line
 use Rattle.moves.proofs.moves as moves·moves
 use Rattle.moves.proofs.given as moves·given
@@ -655,10 +662,30 @@ module _ {M : Type 1} (𝓤 : URA M) where
   pub levels-data-at : OneResult 𝓤 levels·data-at.ended (levels·data-at.clauses 𝓤)
   levels-data-at = one-result 𝓤 levels·data-at.ended (levels·data-at.clauses 𝓤) (λ κs a. dataAt (a .0) (a .1 .0)) refl
 
+  pub bench-lines-compare : OneResult 𝓤 bench-lines·compare.ended (bench-lines·compare.clauses 𝓤)
+  bench-lines-compare =
+      one-result 𝓤 bench-lines·compare.ended (bench-lines·compare.clauses 𝓤) (λ κs a. comparedOf (a .0) (now (a .1 .0))) refl
+
+  pub bench-lines-compare-kept : OneResult 𝓤 bench-lines·compare-kept.ended (bench-lines·compare-kept.clauses 𝓤)
+  bench-lines-compare-kept =
+      one-result 𝓤 bench-lines·compare-kept.ended (bench-lines·compare-kept.clauses 𝓤) (λ κs a. comparedKept (a .0) (a .1 .0)) refl
+
+  pub bench-lines-field-name : OneResult 𝓤 bench-lines·field-name.ended (bench-lines·field-name.clauses 𝓤)
+  bench-lines-field-name =
+      one-result 𝓤 bench-lines·field-name.ended (bench-lines·field-name.clauses 𝓤) (λ κs a. typed noText (nameOf (a .0))) refl
+
   pub lines-cut-from : OneResult 𝓤 lines·cut-from.ended (lines·cut-from.clauses 𝓤)
   lines-cut-from =
       one-result 𝓤 lines·cut-from.ended (lines·cut-from.clauses 𝓤)
       (λ κs a. cutFrom (a .0) (a .1 .1 .0) (drop (a .1 .1 .0) (now (a .1 .0)))) refl
+
+  pub lines-digit : OneResult 𝓤 lines·digit.ended (lines·digit.clauses 𝓤)
+  lines-digit =
+      one-answer 𝓤 lines·digit.ended (lines·digit.clauses 𝓤) (λ κs. ℕ) (λ κs r x. r)
+      (λ κs a. digitOf (a .0)) (λ H A at-mem run κs a g r x. fact-mono 𝓤 _ _ (λ p. p .0))
+
+  pub lines-decimal : OneResult 𝓤 lines·decimal.ended (lines·decimal.clauses 𝓤)
+  lines-decimal = one-result 𝓤 lines·decimal.ended (lines·decimal.clauses 𝓤) (λ κs a. clocksIn (now (a .0))) refl
 
   pub lines-event-of-line : OneResult 𝓤 lines·event-of-line.ended (lines·event-of-line.clauses 𝓤)
   lines-event-of-line = one-result 𝓤 lines·event-of-line.ended (lines·event-of-line.clauses 𝓤) (λ κs a. eventIn (saysOf (a .0))) refl

@@ -1,0 +1,126 @@
+// Where a board and the model part.
+ghost use mathlib.Core.Path.{_≡_};
+ghost use Rattle.agreement.specs.Turns.{besideOf};
+use crate::Turn;
+use bench_lines::FIELDS;
+use chip::Chip;
+use console::print;
+use texts::ROOM;
+use texts::Text;
+
+// How many lines agree; then the number of the line that does not, or that is not there, and of what was found there.
+pub(crate) struct Stop {
+    pub agreed: u64,
+    pub line: u64,
+    pub has_event: bool,
+    pub has_answer: bool,
+    pub readable: bool,
+}
+
+// Says a line of TRACE to the device, and compares the answer with a line of BOARD.
+fn beside(d: Chip, event: Text, board: Text) -> Turn
+    ensures { λ r. ⌜ r ≡ besideOf d event board ⌝ }
+{
+    let o = chip::event(d, lines::event_of_line(event));
+    let e = o.device;
+    let a = o.answer;
+    let c = bench_lines::compare_kept(a, board);
+    Turn {
+        device: e,
+        model: a,
+        compared: c,
+    }
+}
+
+// A label as `show` has them, and a line as it stands in its file.
+fn print_line(out: i32, label: &[u8], t: Text) {
+    io::write_all(out, label);
+    if ROOM < t.len {
+        io::write_all(out, b"a line of more than 96 bytes\n");
+        return;
+    }
+    print(out, t);
+    io::write_all(out, b"\n");
+}
+
+fn print_field(out: i32, place: usize, differs: bool) {
+    if differs {
+        print_line(out, b"differs         ", bench_lines::field_name(place));
+    }
+}
+
+// The fields that differ, by name.
+fn print_fields(out: i32, differs: [bool; FIELDS]) {
+    let mut i = 0;
+    while i < FIELDS {
+        print_field(out, i, differs[i]);
+        i += 1;
+    }
+}
+
+// A line that is readable and does not agree, and the device before it.
+fn print_parted(out: i32, line: u64, d: Chip, event: Text, board: Text, t: Turn) {
+    let m = t.model;
+    let c = t.compared;
+    let differs = c.differs;
+    if !c.readable {
+        return;
+    }
+    io::write_all(out, b"line            ");
+    io::print_decimal(out, line);
+    io::write_all(out, b"\n");
+    print_line(out, b"event           ", event);
+    print_line(out, b"board           ", board);
+    io::write_all(out, b"model           ");
+    print(out, texts::answer_text(m));
+    print_fields(out, differs);
+    io::write_all(out, b"before this event\n");
+    image_files::show_device(d, out);
+}
+
+// The lines of two descriptors side by side, up to the first that does not agree, which is printed, or that one of them has not. (A
+// proved loop has to end, and nothing says that the input does: its turns are counted, up to a number that no run reaches.)
+pub(crate) fn part(d: Chip, events: i32, answers: i32, out: i32) -> Stop {
+    let mut read = io::large_buffer();
+    let mut measured = io::large_buffer();
+    let mut r = input::start();
+    let mut s = input::start();
+    let mut device = d;
+    let mut agreed: u64 = 0;
+    while agreed < u64::MAX {
+        let n = input::next_line(r, events, &mut read);
+        let m = input::next_line(s, answers, &mut measured);
+        r = n.reader;
+        s = m.reader;
+        if !(n.found & m.found) {
+            return Stop {
+                agreed,
+                line: agreed + 1,
+                has_event: n.found,
+                has_answer: m.found,
+                readable: true,
+            };
+        }
+        let t = beside(device, n.text, m.text);
+        let c = t.compared;
+        if !c.agrees {
+            print_parted(out, agreed + 1, device, n.text, m.text, t);
+            return Stop {
+                agreed,
+                line: agreed + 1,
+                has_event: true,
+                has_answer: true,
+                readable: c.readable,
+            };
+        }
+        device = t.device;
+        agreed += 1;
+    }
+    Stop {
+        agreed,
+        line: agreed,
+        has_event: true,
+        has_answer: true,
+        readable: false,
+    }
+}

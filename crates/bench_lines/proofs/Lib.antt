@@ -1,0 +1,4 @@
+pub mod Plain
+pub mod Reading
+pub mod Thirteen
+pub mod Own

@@ -1,0 +1,5 @@
+pub mod Places
+pub mod Fields
+pub mod Cursor
+pub mod Compared
+pub mod Names
