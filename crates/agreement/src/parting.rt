@@ -1,5 +1,7 @@
 // Where a board and the model part.
 ghost use mathlib.Core.Path.{_≡_};
+ghost use mathlib.Core.Bool.{true};
+ghost use Rattle.chip.specs.Chips.{soundChip};
 ghost use Rattle.agreement.specs.Turns.{besideOf};
 use crate::Turn;
 use bench_lines::FIELDS;
@@ -17,11 +19,12 @@ pub(crate) struct Stop {
     pub readable: bool,
 }
 
-// Says a line of TRACE to the device, and compares the answer with a line of BOARD.
-fn beside(d: Chip, event: Text, board: Text) -> Turn
+// Says a line of TRACE to the device, which may be known to be sound, and compares the answer with a line of BOARD.
+fn beside(sound: bool, d: Chip, event: Text, board: Text) -> Turn
+    requires { ⌜ (sound ≡ true → soundChip d ≡ true) ⌝ }
     ensures { λ r. ⌜ r ≡ besideOf d event board ⌝ }
 {
-    let o = chip::event(d, lines::event_of_line(event));
+    let o = chip::known(sound, d, lines::event_of_line(event));
     let e = o.device;
     let a = o.answer;
     let c = bench_lines::compare_kept(a, board);
@@ -79,12 +82,14 @@ fn print_parted(out: i32, line: u64, d: Chip, event: Text, board: Text, t: Turn)
 }
 
 // The lines of two descriptors side by side, up to the first that does not agree, which is printed, or that one of them has not. (A
-// proved loop has to end, and nothing says that the input does: its turns are counted, up to a number that no run reaches.)
+// proved loop has to end, and nothing says that the input does: its turns are counted, up to a number that no run reaches.) Whether the
+// device is sound is asked once.
 pub(crate) fn part(d: Chip, events: i32, answers: i32, out: i32) -> Stop {
     let mut read = io::large_buffer();
     let mut measured = io::large_buffer();
     let mut r = input::start();
     let mut s = input::start();
+    let sound = chip::sound(d);
     let mut device = d;
     let mut agreed: u64 = 0;
     while agreed < u64::MAX {
@@ -101,7 +106,7 @@ pub(crate) fn part(d: Chip, events: i32, answers: i32, out: i32) -> Stop {
                 readable: true,
             };
         }
-        let t = beside(device, n.text, m.text);
+        let t = beside(sound, device, n.text, m.text);
         let c = t.compared;
         if !c.agrees {
             print_parted(out, agreed + 1, device, n.text, m.text, t);

@@ -15,13 +15,14 @@ use Rattle.chip.specs.Chips.{fromZ8036, coreOf, soundChip, eventChip, kn
 abbrev chip : Bool → Z8536 → Chip
 chip b z = record { z8536 = b; device = z }
 
-known-by : (b : Bool) (z : Z8536) (e : Event) → soundChip (chip b z) ≡ true → knownChip (chip b z) e ≡ eventChip (chip b z) e
+known-by : (sure b : Bool) (z : Z8536) (e : Event) → (sure ≡ true → soundChip (chip b z) ≡ true) → knownChip sure (chip b z) e ≡ eventChip (chip b z) e
 unfolding soundChip knownChip eventChip
-known-by true z e s = refl
-known-by false z e s = ap fromZ8036 (known-is (z .core) e s)
+known-by true true z e s = refl
+known-by true false z e s = ap fromZ8036 (known-is (z .core) e (s refl))
+known-by false b z e s = refl
 
-pub known-chip : (c : Chip) (e : Event) → soundChip c ≡ true → knownChip c e ≡ eventChip c e
-known-chip c e s = known-by (c .z8536) (c .device) e s
+pub known-chip : (sure : Bool) (c : Chip) (e : Event) → (sure ≡ true → soundChip c ≡ true) → knownChip sure c e ≡ eventChip c e
+known-chip sure c e s = known-by sure (c .z8536) (c .device) e s
 
 -- a sound record of the device's shape
 abbrev pub Good : Chip → Type 0

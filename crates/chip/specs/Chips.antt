@@ -1,6 +1,6 @@
 -- Either device: a Z8036 or, paper 02, W-209, a Z8536. Which of the two it is stays as it is.
 -- Assumes nothing.
-use mathlib.Core.Bool.{Bool, true, false}
+use mathlib.Core.Bool.{Bool, true, false, not, _&&_}
 use Rattle.basics.specs.Signs.{if_then_else_}
 use Rattle.rules.specs.declared.Device.{Device}
 use Rattle.rules.specs.declared.Event.{Event}
@@ -38,6 +38,6 @@ fromZ8536 o = record { device = ofZ8536 (o .device); answer = o .answer }
 unfoldable pub eventChip : Chip → Event → OutcomeChip
 eventChip c e = if c .z8536 then fromZ8536 (eventZ8536 (c .device) e) else fromZ8036 (eventOf (coreOf c) e)
 
--- the same where it is known that the record is sound: of a Z8036 nothing asks again
-unfoldable pub knownChip : Chip → Event → OutcomeChip
-knownChip c e = if c .z8536 then fromZ8536 (eventZ8536 (c .device) e) else fromZ8036 (knownOf (coreOf c) e)
+-- the same, where `sure` says that the record is known to be sound: then of a Z8036 nothing asks again
+unfoldable pub knownChip : Bool → Chip → Event → OutcomeChip
+knownChip sure c e = if sure && not (c .z8536) then fromZ8036 (knownOf (coreOf c) e) else eventChip c e

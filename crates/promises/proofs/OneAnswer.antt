@@ -15,7 +15,7 @@ use Rattle.bench_lines.specs.Compared.{comparedKept, comparedOf}
 use Rattle.bench_lines.specs.Names.{nameOf}
 use Rattle.bodies.specs.Taken.{statesAgree, recordIn, unusedClear}
 use Rattle.bodies.specs.Written.{bodiesOf, imageOf}
-use Rattle.chip.specs.Chips.{coreOf, eventChip, ofZ8036, ofZ8536}
+use Rattle.chip.specs.Chips.{coreOf, eventChip, knownChip, ofZ8036, ofZ8536, soundChip}
 use Rattle.chip_image.specs.ChipImage.{lengthChip, restoredChip, saveCodeChip, savedChip}
 use Rattle.ctc_image.specs.Image.{restoredCtc, saveCodeCtc, savedCtc}
 use Rattle.ctc_image.specs.Layout.{imageCtc}
@@ -26,14 +26,17 @@ use Rattle.ctc_rules.specs.Interrupts.{linesCtc}
 use Rattle.ctc_rules.specs.Record.{freshCtc}
 use Rattle.ctc_rules.specs.Sound.{soundCtc}
 use Rattle.ctc_words.specs.Shown.{shownCtc}
+use Rattle.event.specs.Known.{knownOf}
 use Rattle.host.specs.Calls.{Called, called, freshCode, freshState, hostEndCtc, hostEvent, hostEventCtc, hostEventZ8536, hostLines, hostLinesCtc, hostLinesZ8536, lengthAt}
 use Rattle.image.specs.Image.{agree, restoredOf, saveCode, savedOf}
 use Rattle.image.specs.Pointed.{imageZ8536, restoredZ8536, saveCodeZ8536, savedZ8536}
 use Rattle.input.specs.Input.{unread}
+use Rattle.levels.specs.Looks.{looksOf}
 use Rattle.lines.specs.Lines.{clocksIn, digitOf, eventIn, saysOf}
 use Rattle.lines.specs.Pieces.{cutFrom}
 use Rattle.measure.specs.Measure.{measureStart, measuredOf, tableOf}
 use Rattle.phrases.specs.Refusals.{refusal, trouble}
+use Rattle.refusals.specs.Known.{knownCode}
 use Rattle.registers.specs.Place.{place}
 use Rattle.row_bridge.specs.Boards.{boarded}
 use Rattle.row_lines.specs.RowLines.{deviceText, headText, rowLine}
@@ -56,13 +59,14 @@ use Rattle.session.specs.Sessions.{answered, answersIn, answersLast, bytesRead,
 use Rattle.theorems.specs.Alone.{aloneAfter, placedBy, struckBy}
 use Rattle.theorems.specs.Moving.{pairOf, pairedBy}
 use Rattle.theorems.specs.Used.{of}
+use Rattle.step.specs.Still.{hasCaught}
 use Rattle.texts.specs.Answers.{answerText, decimalText, glyphOf, levelsText}
 use Rattle.texts.specs.Kept.{bytesOf, noText, pushed, typed}
 use Rattle.words.specs.Shown.{pointerLine, shownLine}
 use Rattle.z8536.specs.Z8536.{eventZ8536, freshZ8536, soundZ8536}
 use denote.Ref.{now}
 use lib.ListN.{drop, getD, length}
-use mathlib.Core.Bool.{_&&_, cond}
+use mathlib.Core.Bool.{_&&_, cond, false}
 use lib.Dec.{ltb}
 use Rattle.ctc_rules.specs.declared.Ctc.{Ctc}
 use Rattle.ctc_rules.specs.declared.CtcAnswer.{CtcAnswer}
@@ -79,6 +83,7 @@ use Rattle.rules.proofs.Device.image_len as rules·Device-image-len
 use Rattle.rules.proofs.Device.registers as rules·Device-registers
 use Rattle.rules.proofs.Device.reset as rules·Device-reset
 use Rattle.event.proofs.event as event·event
+use Rattle.event.proofs.known as event·known
 use Rattle.inplace.proofs.event_in_place as inplace·event-in-place
 use Rattle.inplace.proofs.lines as inplace·lines
 use Rattle.bridge.proofs.through as bridge·through
@@ -125,6 +130,8 @@ use Rattle.chip.proofs.Chip.of_z8036 as chip·Chip-of-z8036
 use Rattle.chip.proofs.Chip.of_z8536 as chip·Chip-of-z8536
 use Rattle.chip.proofs.Chip.core as chip·Chip-core
 use Rattle.chip.proofs.event as chip·event
+use Rattle.chip.proofs.sound as chip·sound
+use Rattle.chip.proofs.known as chip·known
 use Rattle.chip_image.proofs.image_len as chip-image·image-len
 use Rattle.chip_image.proofs.save as chip-image·save
 use Rattle.chip_image.proofs.restore as chip-image·restore
@@ -132,6 +139,7 @@ use Rattle.session.proofs.start as session·start
 use Rattle.session.proofs.feed as session·feed
 use Rattle.session.proofs.finish as session·finish
 use Rattle.refusals.proofs.code_of as refusals·code-of
+use Rattle.refusals.proofs.known_code as refusals·known-code
 use Rattle.refusals.proofs.sound as refusals·sound
 use Rattle.record.proofs.reset as record·reset
 use Rattle.record.proofs.same as record·same
@@ -184,6 +192,7 @@ use Rattle.levels.proofs.counter_on as levels·counter-on
 use Rattle.levels.proofs.pins_at as levels·pins-at
 use Rattle.levels.proofs.path_at as levels·path-at
 use Rattle.levels.proofs.seen_at as levels·seen-at
+use Rattle.levels.proofs.look as levels·look
 use Rattle.levels.proofs.data_at as levels·data-at
 use Rattle.bench_lines.proofs.compare as bench-lines·compare
 use Rattle.bench_lines.proofs.compare_kept as bench-lines·compare-kept
@@ -219,6 +228,8 @@ use Rattle.step.proofs.lines_at as step·lines-at
 use Rattle.step.proofs.link as step·link
 use Rattle.step.proofs.catch_all as step·catch-all
 use Rattle.step.proofs.matches as step·matches
+use Rattle.step.proofs.has_caught as step·has-caught
+use Rattle.step.proofs.untimed as step·untimed
 use Rattle.texts.proofs.glyph as texts·glyph
 use Rattle.texts.proofs.decimal as texts·decimal
 use Rattle.texts.proofs.answer_text as texts·answer-text
@@ -250,6 +261,9 @@ module _ {M : Type 1} (𝓤 : URA M) where
 
   pub event-event : OneResult 𝓤 event·event.ended (event·event.clauses 𝓤)
   event-event = one-result 𝓤 event·event.ended (event·event.clauses 𝓤) (λ κs a. eventOf (a .0) (a .1 .0)) refl
+
+  pub event-known : OneResult 𝓤 event·known.ended (event·known.clauses 𝓤)
+  event-known = one-result 𝓤 event·known.ended (event·known.clauses 𝓤) (λ κs a. knownOf (a .0) (a .1 .0)) refl
 
   pub inplace-event-in-place : OneAnswer 𝓤 inplace·event-in-place.ended (inplace·event-in-place.clauses 𝓤) (λ κs. Answer × Device) (λ κs r x. (r, now (x .0)))
   inplace-event-in-place =
@@ -443,6 +457,12 @@ module _ {M : Type 1} (𝓤 : URA M) where
   pub chip-event : OneResult 𝓤 chip·event.ended (chip·event.clauses 𝓤)
   chip-event = one-result 𝓤 chip·event.ended (chip·event.clauses 𝓤) (λ κs a. eventChip (a .0) (a .1 .0)) refl
 
+  pub chip-sound : OneResult 𝓤 chip·sound.ended (chip·sound.clauses 𝓤)
+  chip-sound = one-result 𝓤 chip·sound.ended (chip·sound.clauses 𝓤) (λ κs a. soundChip (a .0)) refl
+
+  pub chip-known : OneResult 𝓤 chip·known.ended (chip·known.clauses 𝓤)
+  chip-known = one-result 𝓤 chip·known.ended (chip·known.clauses 𝓤) (λ κs a. knownChip (a .0) (a .1 .0) (a .1 .1 .0)) refl
+
   pub chip-image-image-len : OneResult 𝓤 chip-image·image-len.ended (chip-image·image-len.clauses 𝓤)
   chip-image-image-len = one-result 𝓤 chip-image·image-len.ended (chip-image·image-len.clauses 𝓤) (λ κs a. lengthChip (a .0)) refl
 
@@ -476,6 +496,9 @@ module _ {M : Type 1} (𝓤 : URA M) where
 
   pub refusals-code-of : OneResult 𝓤 refusals·code-of.ended (refusals·code-of.clauses 𝓤)
   refusals-code-of = one-result 𝓤 refusals·code-of.ended (refusals·code-of.clauses 𝓤) (λ κs a. codeOf (a .0) (a .1 .0)) refl
+
+  pub refusals-known-code : OneResult 𝓤 refusals·known-code.ended (refusals·known-code.clauses 𝓤)
+  refusals-known-code = one-result 𝓤 refusals·known-code.ended (refusals·known-code.clauses 𝓤) (λ κs a. knownCode (a .0) (a .1 .0)) refl
 
   pub refusals-sound : OneResult 𝓤 refusals·sound.ended (refusals·sound.clauses 𝓤)
   refusals-sound = one-result 𝓤 refusals·sound.ended (refusals·sound.clauses 𝓤) (λ κs a. soundOf (a .0)) refl
@@ -659,6 +682,9 @@ module _ {M : Type 1} (𝓤 : URA M) where
   pub levels-seen-at : OneResult 𝓤 levels·seen-at.ended (levels·seen-at.clauses 𝓤)
   levels-seen-at = one-result 𝓤 levels·seen-at.ended (levels·seen-at.clauses 𝓤) (λ κs a. seenAt (a .0) (a .1 .0)) refl
 
+  pub levels-look : OneResult 𝓤 levels·look.ended (levels·look.clauses 𝓤)
+  levels-look = one-result 𝓤 levels·look.ended (levels·look.clauses 𝓤) (λ κs a. looksOf (a .0)) refl
+
   pub levels-data-at : OneResult 𝓤 levels·data-at.ended (levels·data-at.clauses 𝓤)
   levels-data-at = one-result 𝓤 levels·data-at.ended (levels·data-at.clauses 𝓤) (λ κs a. dataAt (a .0) (a .1 .0)) refl
 
@@ -772,6 +798,12 @@ module _ {M : Type 1} (𝓤 : URA M) where
 
   pub step-matches : OneResult 𝓤 step·matches.ended (step·matches.clauses 𝓤)
   step-matches = one-result 𝓤 step·matches.ended (step·matches.clauses 𝓤) (λ κs a. matchOf (a .0) (a .1 .0) (a .1 .1 .0) (a .1 .1 .1 .0)) refl
+
+  pub step-has-caught : OneResult 𝓤 step·has-caught.ended (step·has-caught.clauses 𝓤)
+  step-has-caught = one-result 𝓤 step·has-caught.ended (step·has-caught.clauses 𝓤) (λ κs a. hasCaught (a .0)) refl
+
+  pub step-untimed : OneResult 𝓤 step·untimed.ended (step·untimed.clauses 𝓤)
+  step-untimed = one-result 𝓤 step·untimed.ended (step·untimed.clauses 𝓤) (λ κs a. stepOf false (a .0) (a .1 .0) .device) refl
 
   pub texts-glyph : OneResult 𝓤 texts·glyph.ended (texts·glyph.clauses 𝓤)
   texts-glyph = one-result 𝓤 texts·glyph.ended (texts·glyph.clauses 𝓤) (λ κs a. glyphOf (a .0)) refl

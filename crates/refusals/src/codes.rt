@@ -94,7 +94,7 @@ fn or_else(refused: bool, code: u8, rest: u8) -> u8
 }
 
 // "Order: 9, 1, 2, 5, reset hold, 3, 4, 6.", 11 after 3, 10 after 11, from the last to the first but one: of a record that is known to be sound.
-pub fn known_code(d: Device, e: Event) -> u8
+fn any_code(d: Device, e: Event) -> u8
     ensures { λ r. ⌜ r ≡ knownCode d e ⌝ }
 {
     let from_6 = or_else(is_unrequested(d, e), 6, 0);
@@ -106,6 +106,29 @@ pub fn known_code(d: Device, e: Event) -> u8
     let from_5 = or_else(is_too_large(e), 5, from_hold);
     let from_2 = or_else(has_no_register(e), 2, from_5);
     or_else(is_unknown(e), 1, from_2)
+}
+
+// The same of a W, to which 1, 11 and 6 cannot come.
+fn write_code(d: Device, e: Event) -> u8
+    requires { ⌜ e .kind ≡ 1 ⌝ }
+    ensures { λ r. ⌜ r ≡ knownCode d e ⌝ }
+{
+    let from_4 = or_else(is_later(d, e), 4, 0);
+    let from_10 = or_else(has_no_room(d, e), 10, from_4);
+    let from_3 = or_else(is_read_only(e), 3, from_10);
+    let from_hold = or_else(is_held(d, e), 0, from_3);
+    let from_5 = or_else(is_too_large(e), 5, from_hold);
+    or_else(has_no_register(e), 2, from_5)
+}
+
+// A W asks for the fewest tests, and most events are such.
+pub fn known_code(d: Device, e: Event) -> u8
+    ensures { λ r. ⌜ r ≡ knownCode d e ⌝ }
+{
+    if e.kind == Event::W {
+        return write_code(d, e);
+    }
+    any_code(d, e)
 }
 
 // And with the first.

@@ -3,14 +3,12 @@ ghost use mathlib.Core.Path.{_≡_};
 ghost use mathlib.Core.Bool.{true, cond};
 ghost use Prim.Native.Nat.{_+_, _≤_};
 ghost use lib.ListN.{length};
-ghost use Rattle.chip.specs.Chips.{soundChip, eventChip};
+ghost use Rattle.chip.specs.Chips.{soundChip};
 ghost use Rattle.texts.specs.Answers.{answerText};
 ghost use Rattle.texts.specs.Kept.{textRoom};
 ghost use Rattle.basics.specs.Buffer.{fits, laidOf};
 ghost use Rattle.session.specs.Sessions.{outcomeBy, startOf, answersIn, answersLast, bytesRead, fedBy, answered, finishedBy, lineIn, lineFed};
 use chip::Chip;
-use chip::OutcomeChip;
-use rules::Event;
 use texts::Text;
 
 pub struct Session {
@@ -41,17 +39,6 @@ pub fn start(d: Chip) -> Session
     }
 }
 
-// An event of a device, of which `sound` may say that it is known to be sound.
-fn happens(sound: bool, d: Chip, e: Event) -> OutcomeChip
-    requires { ⌜ (sound ≡ true → soundChip d ≡ true) ⌝ }
-    ensures { λ r. ⌜ r ≡ eventChip d e ⌝ }
-{
-    if sound {
-        return chip::known(d, e);
-    }
-    chip::event(d, e)
-}
-
 // Says a line that is kept to the device, and lays the answer into the buffer from a place.
 fn tell(sound: bool, d: Chip, t: Text, out: &mut [u8], at: usize) -> Told
     requires { ⌜ (sound ≡ true → soundChip d ≡ true) ⌝ }
@@ -59,7 +46,7 @@ fn tell(sound: bool, d: Chip, t: Text, out: &mut [u8], at: usize) -> Told
     ensures { λ r. ⌜ now (out .exit) ≡ laidOf (now (out .entry)) at (answerText (outcomeBy d t .answer)) ⌝ }
     ensures { λ r. ⌜ r .len ≡ cond (fits (now (out .entry)) at (answerText (outcomeBy d t .answer))) (at + length (answerText (outcomeBy d t .answer))) at ⌝ }
 {
-    let o = happens(sound, d, lines::event_of_line(t));
+    let o = chip::known(sound, d, lines::event_of_line(t));
     let e = o.device;
     let a = o.answer;
     let n = texts::lay(texts::answer_text(a), out, at);
@@ -100,15 +87,13 @@ fn take_line(sound: bool, f: Fed, piece: &[u8], out: &mut [u8]) -> Fed
     }
 }
 
-// A piece from a place on, up to its end or until an answer might find no room in the buffer. Whether the device is sound is asked once: an event
-// of a sound record leaves a sound one.
-pub fn feed(s: Session, piece: &[u8], at: usize, out: &mut [u8]) -> Fed
+// A piece from a place on, up to its end or until an answer might find no room in the buffer.
+fn feed_by(sound: bool, s: Session, piece: &[u8], at: usize, out: &mut [u8]) -> Fed
+    requires { ⌜ (sound ≡ true → soundChip (s .device) ≡ true) ⌝ }
     ensures { λ r. ⌜ r ≡ fedBy s at (bytesRead s (now (piece .entry)) at (now (out .entry))) ⌝ }
     ensures { λ r. ⌜ now (out .exit) ≡ answered (answersIn s (bytesRead s (now (piece .entry)) at (now (out .entry)))) (now (out .entry)) ⌝ }
     ensures { λ r. ⌜ r .len ≤ length (now (out .exit)) ⌝ }
 {
-    let d = s.device;
-    let sound = chip::sound(d);
     let mut f = Fed {
         session: s,
         next: at,
@@ -118,6 +103,16 @@ pub fn feed(s: Session, piece: &[u8], at: usize, out: &mut [u8]) -> Fed
         f = take_line(sound, f, piece, out);
     }
     f
+}
+
+// The same; whether the device is sound is asked once, since an event of a sound record leaves a sound one.
+pub fn feed(s: Session, piece: &[u8], at: usize, out: &mut [u8]) -> Fed
+    ensures { λ r. ⌜ r ≡ fedBy s at (bytesRead s (now (piece .entry)) at (now (out .entry))) ⌝ }
+    ensures { λ r. ⌜ now (out .exit) ≡ answered (answersIn s (bytesRead s (now (piece .entry)) at (now (out .entry)))) (now (out .entry)) ⌝ }
+    ensures { λ r. ⌜ r .len ≤ length (now (out .exit)) ⌝ }
+{
+    let d = s.device;
+    feed_by(chip::sound(d), s, piece, at, out)
 }
 
 // At the end of the input: a last line with no line feed.

@@ -1,7 +1,7 @@
 use Rattle.chip.specs.Chips.{soundChip}
 use borrow.Author.Needs.{needs}
-use Rattle.chip.proofs.sound.Statement.{statement}
-use Rattle.chip.proofs.sound.Tie as tie
+use Rattle.chip.proofs.sure.sound.Statement.{statement}
+use Rattle.chip.proofs.sure.sound.Tie as tie
 
 sound-requires : tie.Need-sound-requires
 sound-requires c κs = search needs
