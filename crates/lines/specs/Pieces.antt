@@ -48,6 +48,11 @@ unfoldable pub lineLen : List ℕ → ℕ
 lineLen [] = 0
 lineLen (b ∷ rest) = if b == lineFeed then 1 else suc (lineLen rest)
 
+-- how many before the first line feed, or in all where there is none
+unfoldable pub feedAt : List ℕ → ℕ
+feedAt [] = 0
+feedAt (b ∷ rest) = if b == lineFeed then 0 else suc (feedAt rest)
+
 -- from place i on to the end of a line: the line, and the place after its line feed; or all that there is
 unfoldable pub cutFrom : Text → ℕ → List ℕ → Cut
 cutFrom t i [] = record { text = t; next = i; whole = false }

@@ -4,8 +4,10 @@ mod pieces;
 mod reading;
 
 pub use pieces::cut_from;
+pub use pieces::line_end;
 pub use reading::decimal;
 pub use reading::digit;
+pub use reading::event_of;
 pub use reading::event_of_line;
 use rules::Event;
 use texts::Text;

@@ -1,7 +1,8 @@
 // Lines from an input that comes in pieces.
 ghost use mathlib.Core.Path.{_≡_};
 ghost use lib.ListN.{drop};
-ghost use Rattle.lines.specs.Pieces.{cutFrom};
+ghost use Prim.Native.Nat.{_+_};
+ghost use Rattle.lines.specs.Pieces.{feedAt, cutFrom};
 use crate::Cut;
 use crate::long::cut_long;
 use texts::ROOM;
@@ -35,4 +36,18 @@ pub fn cut_from(t: Text, piece: &[u8], at: usize) -> Cut
         next: i,
         whole: false,
     }
+}
+
+// Where the line feed is that ends a line, from a place in a piece on; the end of the piece where there is none.
+pub fn line_end(piece: &[u8], at: usize) -> usize
+    ensures { λ r. ⌜ r ≡ at + feedAt (drop at (now (piece .entry))) ⌝ }
+{
+    let mut i = at;
+    while i < piece.len() {
+        if piece[i] == b'\n' {
+            return i;
+        }
+        i += 1;
+    }
+    i
 }

@@ -194,6 +194,13 @@ fn event_in(l: Line) -> Event
     }
 }
 
+// The event of a line of these bytes.
+pub fn event_of(s: &[u8]) -> Event
+    ensures { λ r. ⌜ r ≡ eventIn (lineOf (now (s .entry))) ⌝ }
+{
+    event_in(meaning(s))
+}
+
 // The event of a line that is kept.
 pub fn event_of_line(t: Text) -> Event
     ensures { λ r. ⌜ r ≡ eventIn (saysOf t) ⌝ }

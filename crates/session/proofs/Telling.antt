@@ -24,7 +24,19 @@ use Rattle.session.specs.Sessions.{outcomeBy, answerBytes, deviceAfter, 
 use Rattle.session.specs.declared.Fed.{Fed}
 use Rattle.session.specs.declared.Session.{Session}
 use Rattle.session.specs.declared.Told.{Told}
+use Rattle.chip.specs.Chips.{eventChip}
 use Rattle.chip.specs.declared.Chip.{Chip}
+use Rattle.rules.specs.declared.Event.{Event}
+
+-- what is told of an event: the device, the buffer, and the place after the answer
+abbrev pub toldDevice : Chip → Event → Chip
+toldDevice d e = eventChip d e .device
+
+abbrev pub toldBytes : Chip → List ℕ → ℕ → Event → List ℕ
+toldBytes d out at e = laidOf out at (answerText (eventChip d e .answer))
+
+abbrev pub toldLen : Chip → List ℕ → ℕ → Event → ℕ
+toldLen d out at e = cond (fits out at (answerText (eventChip d e .answer))) (at + length (answerText (eventChip d e .answer))) at
 
 -- a line's bytes are among those that there are, and some where there are any
 pub line-short : (m : List ℕ) → lineLen m ≤ length m

@@ -3,12 +3,13 @@ ghost use mathlib.Core.Path.{_≡_};
 ghost use mathlib.Core.Bool.{true, cond};
 ghost use Prim.Native.Nat.{_+_, _≤_};
 ghost use lib.ListN.{length};
-ghost use Rattle.chip.specs.Chips.{soundChip};
+ghost use Rattle.chip.specs.Chips.{soundChip, eventChip};
 ghost use Rattle.texts.specs.Answers.{answerText};
 ghost use Rattle.texts.specs.Kept.{textRoom};
 ghost use Rattle.basics.specs.Buffer.{fits, laidOf};
-ghost use Rattle.session.specs.Sessions.{outcomeBy, startOf, answersIn, answersLast, bytesRead, fedBy, answered, finishedBy, lineIn, lineFed};
+ghost use Rattle.session.specs.Sessions.{startOf, answersIn, answersLast, bytesRead, fedBy, answered, finishedBy, lineIn, lineFed};
 use chip::Chip;
+use rules::Event;
 use texts::Text;
 
 pub struct Session {
@@ -39,18 +40,20 @@ pub fn start(d: Chip) -> Session
     }
 }
 
-// Says a line that is kept to the device, and lays the answer into the buffer from a place.
-fn tell(sound: bool, d: Chip, t: Text, out: &mut [u8], at: usize) -> Told
+// Says an event to the device, and lays the answer into the buffer from a place.
+fn tell(sound: bool, d: Chip, e: Event, out: &mut [u8], at: usize) -> Told
     requires { ⌜ (sound ≡ true → soundChip d ≡ true) ⌝ }
-    ensures { λ r. ⌜ r .device ≡ outcomeBy d t .device ⌝ }
-    ensures { λ r. ⌜ now (out .exit) ≡ laidOf (now (out .entry)) at (answerText (outcomeBy d t .answer)) ⌝ }
-    ensures { λ r. ⌜ r .len ≡ cond (fits (now (out .entry)) at (answerText (outcomeBy d t .answer))) (at + length (answerText (outcomeBy d t .answer))) at ⌝ }
+    ensures { λ r. ⌜ r .device ≡ eventChip d e .device ⌝ }
+    ensures { λ r. ⌜ now (out .exit) ≡ laidOf (now (out .entry)) at (answerText (eventChip d e .answer)) ⌝ }
+    ensures { λ r. ⌜ r .len ≡ cond (fits (now (out .entry)) at (answerText (eventChip d e .answer))) (at + length (answerText (eventChip d e .answer))) at ⌝ }
 {
-    let o = chip::known(sound, d, lines::event_of_line(t));
-    let e = o.device;
+    let o = chip::known(sound, d, e);
+    let after = o.device;
     let a = o.answer;
-    let n = texts::lay(texts::answer_text(a), out, at);
-    Told { device: e, len: n }
+    Told {
+        device: after,
+        len: texts::write_answer(a, out, at),
+    }
 }
 
 // After a line that was told, the next line has no byte yet.
@@ -65,8 +68,8 @@ fn told_on(f: Fed, next: usize, a: Told) -> Fed
     g
 }
 
-// One line more of a piece, or what there is of one.
-fn take_line(sound: bool, f: Fed, piece: &[u8], out: &mut [u8]) -> Fed
+// One line more of a piece, which may have begun in a piece before and may not end in this one.
+fn cut_line(sound: bool, f: Fed, piece: &[u8], out: &mut [u8]) -> Fed
     requires { ⌜ (f .len + textRoom ≤ length (now out)) × (sound ≡ true → soundChip (f .session .device) ≡ true) ⌝ }
     ensures { λ r. ⌜ r ≡ lineFed f (lineIn (now (piece .entry)) (f .next)) ⌝ }
     ensures { λ r. ⌜ now (out .exit) ≡ laidOf (now (out .entry)) (f .len) (answersIn (f .session) (lineIn (now (piece .entry)) (f .next))) ⌝ }
@@ -77,7 +80,7 @@ fn take_line(sound: bool, f: Fed, piece: &[u8], out: &mut [u8]) -> Fed
     let c = lines::cut_from(t, piece, f.next);
     let u = c.text;
     if c.whole {
-        let a = tell(sound, d, u, out, f.len);
+        let a = tell(sound, d, lines::event_of_line(u), out, f.len);
         return told_on(f, c.next, a);
     }
     Fed {
@@ -85,6 +88,22 @@ fn take_line(sound: bool, f: Fed, piece: &[u8], out: &mut [u8]) -> Fed
         next: c.next,
         len: f.len,
     }
+}
+
+// One line more of a piece, or what there is of one: one that begins and ends in it is read where it stands.
+fn take_line(sound: bool, f: Fed, piece: &[u8], out: &mut [u8]) -> Fed
+    requires { ⌜ (f .len + textRoom ≤ length (now out)) × (sound ≡ true → soundChip (f .session .device) ≡ true) ⌝ }
+    ensures { λ r. ⌜ r ≡ lineFed f (lineIn (now (piece .entry)) (f .next)) ⌝ }
+    ensures { λ r. ⌜ now (out .exit) ≡ laidOf (now (out .entry)) (f .len) (answersIn (f .session) (lineIn (now (piece .entry)) (f .next))) ⌝ }
+{
+    let i = f.next;
+    let e = lines::line_end(piece, i);
+    if (f.session.text.len == 0) & (e < piece.len()) {
+        let d = f.session.device;
+        let a = tell(sound, d, lines::event_of(&piece[i..e]), out, f.len);
+        return told_on(f, e + 1, a);
+    }
+    cut_line(sound, f, piece, out)
 }
 
 // A piece from a place on, up to its end or until an answer might find no room in the buffer.
@@ -126,5 +145,5 @@ pub fn finish(s: Session, out: &mut [u8]) -> Told
     if t.len == 0 {
         return Told { device: d, len: 0 };
     }
-    tell(false, d, t, out, 0)
+    tell(false, d, lines::event_of_line(t), out, 0)
 }

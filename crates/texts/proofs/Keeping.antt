@@ -79,9 +79,13 @@ keeps-on t v [] k = subst (λ (l : List ℕ). Keeps t l) (sym (append-nil v)) k
 keeps-on t v (b ∷ w) k =
     subst (λ (l : List ℕ). Keeps (typed (pushed t b) w) l) (append-assoc v (b ∷ []) w) (keeps-on (pushed t b) (v ++ (b ∷ [])) w (keeps-next t v b k))
 
+pub keeps-from : (t : Text) (w : List ℕ) → t .len ≡ 0 → length (t .bytes) ≡ textRoom → Keeps (typed t w) w
+keeps-from t w z r =
+    keeps-on t [] w (inl record { short = omega arith; len = z; bytes = ap (λ (n : ℕ). take n (t .bytes)) z; room = r })
+
 pub keeps : (w : List ℕ) → Keeps (typed noText w) w
 unfolding noText
-keeps w = keeps-on noText [] w (inl record { short = omega arith; len = refl; bytes = refl; room = refl })
+keeps w = keeps-from noText w refl refl
 
 -- ---- a line that is held
 pub holds-bytes : (t : Text) (w : List ℕ) → Holds t w → bytesOf t ≡ w

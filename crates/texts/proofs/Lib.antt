@@ -2,3 +2,4 @@ pub mod Typing
 pub mod Keeping
 pub mod Printed
 pub mod OneDigit
+pub mod Writing

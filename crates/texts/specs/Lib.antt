@@ -1,4 +1,4 @@
 pub mod Spelled
 pub mod Kept
 pub mod Answers
-pub mod Short
+pub mod Written

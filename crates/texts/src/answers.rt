@@ -3,14 +3,13 @@ ghost use mathlib.Core.Path.{_≡_};
 ghost use mathlib.Core.Bool.{cond};
 ghost use Prim.Native.Nat.{_+_, _<_};
 ghost use lib.ListN.{length};
-ghost use Rattle.texts.specs.Kept.{noText, typed, bytesOf};
+ghost use Rattle.texts.specs.Kept.{noText, typed};
 ghost use Rattle.texts.specs.Answers.{glyphOf, hexText, nibbleText, flagText, placeText, decimalText, countText, countsText, reportText, levelsText, answerText};
 ghost use Rattle.basics.specs.Buffer.{fits, laidOf};
+use crate::ROOM;
 use crate::Text;
-use crate::kept::kept_len;
-use crate::kept::no_text;
 use crate::kept::push;
-use crate::short;
+use crate::written;
 use rules::Answer;
 use rules::Report;
 
@@ -25,19 +24,19 @@ pub fn glyph(n: u8) -> u8
     b'A' + (d - 10)
 }
 
-pub(crate) fn hex(t: Text, n: u8) -> Text
+fn hex(t: Text, n: u8) -> Text
     ensures { λ r. ⌜ r ≡ typed t (hexText n) ⌝ }
 {
     push(push(push(t, b' '), glyph(n / 16)), glyph(n))
 }
 
-pub(crate) fn nibble(t: Text, n: u8) -> Text
+fn nibble(t: Text, n: u8) -> Text
     ensures { λ r. ⌜ r ≡ typed t (nibbleText n) ⌝ }
 {
     push(push(t, b' '), glyph(n))
 }
 
-pub(crate) fn flag(t: Text, f: bool) -> Text
+fn flag(t: Text, f: bool) -> Text
     ensures { λ r. ⌜ r ≡ typed t (flagText f) ⌝ }
 {
     let s = push(t, b' ');
@@ -104,32 +103,34 @@ pub fn levels(t: Text, a: Answer) -> Text
     report(flag(flag(pins, a.int), a.ieo), r)
 }
 
-// The line of an answer whose numbers are of any length.
-fn long_text(a: Answer) -> Text
-    ensures { λ r. ⌜ r ≡ typed noText (answerText a) ⌝ }
-{
-    let r = a.report;
-    let code = decimal(no_text(), a.code as u32);
-    let pins = nibble(hex(hex(hex(code, a.value), a.a), a.b), a.c);
-    let levels = flag(flag(pins, a.int), a.ieo);
-    push(report(levels, r), b'\n')
-}
-
 // The line of an answer, with its line feed.
 pub fn answer_text(a: Answer) -> Text
     ensures { λ r. ⌜ r ≡ typed noText (answerText a) ⌝ }
 {
-    if short::is_short(a) {
-        return short::short_text(a);
-    }
-    long_text(a)
+    let mut bytes = [0; ROOM];
+    let n = written::answer(a, &mut bytes, 0);
+    Text { bytes, len: n }
 }
 
-// Lays a text into a buffer from a place, and answers the place after it; where it does not fit, nothing.
-pub fn lay(t: Text, buf: &mut [u8], at: usize) -> usize
-    ensures { λ r. ⌜ (now (buf .exit) ≡ laidOf (now (buf .entry)) at (bytesOf t)) × (r ≡ cond (fits (now (buf .entry)) at (bytesOf t)) (at + length (bytesOf t)) at) ⌝ }
+// The same, laid into a buffer that may have no room for it.
+fn lay_answer(a: Answer, out: &mut [u8], at: usize) -> usize
+    ensures { λ r. ⌜ (now (out .exit) ≡ laidOf (now (out .entry)) at (answerText a)) × (r ≡ cond (fits (now (out .entry)) at (answerText a)) (at + length (answerText a)) at) ⌝ }
 {
-    let n = kept_len(t);
-    let b = t.bytes;
-    basics::lay(buf, at, &b[..n])
+    let mut bytes = [0; ROOM];
+    let n = written::answer(a, &mut bytes, 0);
+    basics::lay(out, at, &bytes[..n])
+}
+
+// Lays the line of an answer into a buffer from a place, and answers the place after it; where it does not fit, nothing. Where any answer
+// fits, it is written there at once.
+pub fn write_answer(a: Answer, out: &mut [u8], at: usize) -> usize
+    ensures { λ r. ⌜ (now (out .exit) ≡ laidOf (now (out .entry)) at (answerText a)) × (r ≡ cond (fits (now (out .entry)) at (answerText a)) (at + length (answerText a)) at) ⌝ }
+{
+    if out.len() < ROOM {
+        return lay_answer(a, out, at);
+    }
+    if out.len() - ROOM < at {
+        return lay_answer(a, out, at);
+    }
+    written::answer(a, out, at)
 }

@@ -1,7 +1,6 @@
 // A line's bytes as they are kept.
 ghost use mathlib.Core.Path.{_≡_};
-ghost use Prim.Native.Nat.{_≤_};
-ghost use Rattle.texts.specs.Kept.{textRoom, noText, pushed, keptLen};
+ghost use Rattle.texts.specs.Kept.{noText, pushed};
 use crate::ROOM;
 use crate::Text;
 
@@ -27,14 +26,4 @@ pub fn push(t: Text, b: u8) -> Text
     }
     u.len = ROOM + 1;
     u
-}
-
-// How many bytes are kept: none of a line that has no room.
-pub(crate) fn kept_len(t: Text) -> usize
-    ensures { λ r. ⌜ (r ≡ keptLen t) × (r ≤ textRoom) ⌝ }
-{
-    if ROOM < t.len {
-        return 0;
-    }
-    t.len
 }

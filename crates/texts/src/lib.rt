@@ -1,13 +1,13 @@
 // The bytes of a line: as they are kept, as an answer has them, and laid into a buffer.
 mod answers;
 mod kept;
-mod short;
+mod written;
 
 pub use answers::answer_text;
 pub use answers::decimal;
 pub use answers::glyph;
-pub use answers::lay;
 pub use answers::levels;
+pub use answers::write_answer;
 pub use kept::no_text;
 pub use kept::push;
 

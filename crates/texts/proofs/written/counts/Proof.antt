@@ -1,8 +1,8 @@
-use Rattle.texts.specs.Answers.{countsText}
-use Rattle.texts.proofs.Typing.{typed-append}
 use borrow.Author.Needs.{needs}
-use Rattle.texts.proofs.short.counts.Statement.{statement}
-use Rattle.texts.proofs.short.counts.Tie as tie
+use Rattle.texts.specs.Answers.{countsText}
+use Rattle.texts.proofs.Writing.{wrote-more}
+use Rattle.texts.proofs.written.counts.Statement.{statement}
+use Rattle.texts.proofs.written.counts.Tie as tie
 
 array-read-count : tie.Need-array-read-count
 array-read-count c = search needs
@@ -22,12 +22,15 @@ array-read-count-3 c = search needs
 count-requires-3 : tie.Need-count-requires-3
 count-requires-3 c κs = search needs
 
+same-length : tie.Need-same-length
+same-length c = search needs
+
 returns : tie.Need-returns
 unfolding countsText
 returns c =
-    let at2 = c .before in
-    let at1 = at2 .before in
-    simp (typed-append, c .count3 .ensures, at2 .count2 .ensures, at1 .count .ensures)
+    let third = c .before .before in
+    let second = third .before .before .before .before in
+    wrote-more (wrote-more (second .before .before .before .before .count .ensures) (second .count2 .ensures)) (third .count3 .ensures)
 
 pub counts-spec : {M : Type 1} → statement M
 counts-spec =
@@ -39,4 +42,5 @@ counts-spec =
     count-requires-2
     array-read-count-3
     count-requires-3
+    same-length
     returns)

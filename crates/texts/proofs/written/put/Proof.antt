@@ -1,0 +1,20 @@
+use borrow.Author.Needs.{needs}
+use Rattle.texts.specs.Written.{written}
+use Rattle.texts.proofs.written.put.Statement.{statement}
+use Rattle.texts.proofs.written.put.Tie as tie
+
+slice-write-out : tie.Need-slice-write-out
+slice-write-out c = search needs
+
+add-result : tie.Need-add-result
+add-result c = search needs
+
+same-length : tie.Need-same-length
+same-length c = search needs
+
+returns : tie.Need-returns
+unfolding written
+returns c = search needs
+
+pub put-spec : {M : Type 1} → statement M
+put-spec = tie.close (tie.spec slice-write-out add-result same-length returns)
