@@ -44,7 +44,7 @@ module _ (f : Stage) where
   abbrev pub startOf : ℕ → Pair → Chase
   startOf k x = record { now = x; anchor = x; since = 0; leaps = 0; span = 1; left = k }
 
-  pub started : (k : ℕ) (x : Pair) → k ≤ 4294967295 → x .terminals ≡ 0 → Holds f (startOf k x)
+  pub started : (k : ℕ) (x : Pair) → k ≤ 4294967295 → x .terminals + k ≤ 4294967295 → Holds f (startOf k x)
   unfolding iterate
   started k x h z = record { present = refl; time = omega arith; room = omega arith }
 
@@ -55,20 +55,28 @@ module _ (f : Stage) where
       let none : c .left ≡ 0 = omega arith in
       sym (ap (λ (n : ℕ). iterate n (pairedOn f) (c .now)) none) ∙ e
 
+  -- ---- k of the clocks that are left: the rest ends where all do, and has the room that they had
+  module _ (left k : ℕ) (x y : Pair) (le : k ≤ left) (gone : y ≡ iterate k (pairedOn f) x) where
+    pub rest : iterate (left - k) (pairedOn f) y ≡ iterate left (pairedOn f) x
+    rest =
+        ap (iterate (left - k) (pairedOn f)) gone ∙ sym (iterate-add k (left - k) (pairedOn f) x)
+        ∙ ap (λ (n : ℕ). iterate n (pairedOn f) x) (omega arith)
+
+    pub rest-room : x .terminals + left ≤ 4294967295 → y .terminals + (left - k) ≤ 4294967295
+    rest-room h = omega (arith, ap (λ (z : Pair). z .terminals) gone, at-most k x, h)
+
   -- ---- k clocks later, at the same anchor
   pub later : (c r : Chase) (k : ℕ) → Holds f c → k ≤ c .left → r .now ≡ iterate k (pairedOn f) (c .now) → r .anchor ≡ c .anchor
       → r .since ≡ c .since + k → r .left ≡ c .left - k → Follows f c r
   unfolding endOf
   later c r k h le now anchor since left =
-      let t = ap (λ (x : Pair). x .terminals) now in
       record {
-        end = ap₂ (λ (n : ℕ) (x : Pair). iterate n (pairedOn f) x) left now ∙ sym (iterate-add k (c .left - k) (pairedOn f) (c .now))
-            ∙ ap (λ (n : ℕ). iterate n (pairedOn f) (c .now)) (omega arith);
+        end = ap (λ (n : ℕ). iterate n (pairedOn f) (r .now)) left ∙ rest (c .left) k (c .now) (r .now) le now;
         holds = record {
           present = now ∙ ap (iterate k (pairedOn f)) (h .present) ∙ sym (iterate-add (c .since) k (pairedOn f) (c .anchor))
               ∙ ap₂ (λ (n : ℕ) (x : Pair). iterate n (pairedOn f) x) (sym since) (sym anchor);
           time = omega (arith, h .time, since, left);
-          room = omega (arith, t, at-most k (c .now), h .room, left);
+          room = omega (arith, rest-room (c .left) k (c .now) (r .now) le now (h .room), left);
         };
         left = omega (arith, left);
       }

@@ -217,9 +217,9 @@ fn turned(f: Stage, c: Chase) -> Chase
     renewed(f, c)
 }
 
-// k timer clocks.
-pub(crate) fn run(f: Stage, x: Pair, k: u32) -> Pair
-    requires { ⌜ x .terminals ≡ 0 ⌝ }
+// k timer clocks, in search of rounds.
+fn by_rounds(f: Stage, x: Pair, k: u32) -> Pair
+    requires { ⌜ x .terminals + k ≤ 4294967295 ⌝ }
     ensures { λ r. ⌜ r ≡ iterate k (pairedOn f) x ⌝ }
 {
     let mut c = Chase {
@@ -234,4 +234,27 @@ pub(crate) fn run(f: Stage, x: Pair, k: u32) -> Pair
         c = turned(f, advanced(f, c));
     }
     c.now
+}
+
+// How many leaps a run takes before it looks for rounds: one that is over by then pays for no anchor and compares nothing with it.
+const A_WHILE: u32 = 64;
+
+// k timer clocks.
+pub(crate) fn run(f: Stage, x: Pair, k: u32) -> Pair
+    requires { ⌜ x .terminals ≡ 0 ⌝ }
+    ensures { λ r. ⌜ r ≡ iterate k (pairedOn f) x ⌝ }
+{
+    let mut now = x;
+    let mut left = k;
+    let mut leaps = 0u32;
+    while (0 < left) & (leaps < A_WHILE) {
+        let l = leapt(f, now, left);
+        now = l.pair;
+        left -= l.clocks;
+        leaps += 1;
+    }
+    if left == 0 {
+        return now;
+    }
+    by_rounds(f, now, left)
 }
