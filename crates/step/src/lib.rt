@@ -3,15 +3,16 @@ mod pattern;
 mod still;
 
 ghost use mathlib.Core.Path.{_≡_};
+ghost use mathlib.Core.List.{[], _∷_};
 ghost use Prim.Native.Nat.{_<_};
 ghost use Rattle.rules.specs.Record.{counterAt};
-ghost use Rattle.rules.specs.Registers.{lc};
-ghost use Rattle.rules.specs.Counters.{outputOf, linkOf};
+ghost use Rattle.rules.specs.Counters.{outputOf, linkOf, reachOf, turnOf};
 ghost use Rattle.rules.specs.PortData.{caughtOf};
 ghost use Rattle.rules.specs.Patterns.{matchOf};
-ghost use Rattle.rules.specs.Interrupts.{afterFate, came, wasLost};
-ghost use Rattle.rules.specs.Step.{linesAt, eventAt, turned, counterTurn, catchers, caughtAt, matchedBy, patternTurn, settled, stepOf};
-use rules::Counted;
+ghost use Rattle.rules.specs.Interrupts.{came, wasLost};
+ghost use Rattle.rules.specs.Step.{linesAt, catchers, caughtAt, stepOf};
+ghost use Rattle.step.specs.Parts.{leftBy, turnBy, turnAt, sideBy, sideAt};
+use rules::Counter;
 use rules::Device;
 use rules::Fate;
 use rules::Link;
@@ -19,9 +20,22 @@ use rules::Pattern;
 use rules::Port;
 use rules::Source;
 use rules::Stepped;
-use rules::Turned;
 pub use still::has_caught;
 pub use still::untimed;
+
+// What a counter's turn leaves: the counter, its source, and whether a terminal came and was lost.
+struct Turn {
+    counter: Counter,
+    source: Source,
+    came: bool,
+    lost: bool,
+}
+
+// What a pattern's turn leaves: PMF, and the port's source.
+struct Side {
+    pmf: bool,
+    source: Source,
+}
 
 // Whether an event came, and whether it was lost.
 fn came(f: Fate) -> bool
@@ -46,48 +60,22 @@ fn was_lost(f: Fate) -> bool
     }
 }
 
-// Source k after what became of its event.
-fn after_fate(d: Device, k: usize, f: Fate) -> Device
-    requires { ⌜ k < 5 ⌝ }
-    ensures { λ r. ⌜ r ≡ afterFate d k f ⌝ }
+// A source after what became of its event.
+fn after_fate(s: Source, f: Fate) -> Source
+    ensures { λ r. ⌜ r ≡ leftBy f s ⌝ }
 {
-    let mut e = d;
+    let mut e = s;
     match f {
-        Fate::Nothing => d,
+        Fate::Nothing => s,
         Fate::Taken => {
-            e.sources[k].ip = true;
+            e.ip = true;
             e
         }
         Fate::Kept => {
-            e.sources[k].hidden = true;
+            e.hidden = true;
             e
         }
-        Fate::Lost => d,
-    }
-}
-
-// An event comes to source k, or does not.
-fn event_at(d: Device, k: usize, hides: bool, happens: bool) -> Device
-    requires { ⌜ k < 5 ⌝ }
-    ensures { λ r. ⌜ r ≡ eventAt d k hides happens ⌝ }
-{
-    let f = sources::fate(hides, happens, d.sources[k]);
-    after_fate(d, k, f)
-}
-
-// Counter i after its turn, what became of its terminal, and its source after that.
-fn turned_by(d: Device, i: usize, r: Counted) -> Turned
-    requires { ⌜ i < 3 ⌝ }
-    ensures { λ t. ⌜ t ≡ turned d i r ⌝ }
-{
-    let k = Source::of_counter(i);
-    let f = sources::fate(true, r.terminal, d.sources[k]);
-    let c = r.counter;
-    let mut e = d;
-    e.counters[i] = c;
-    Turned {
-        device: after_fate(e, k, f),
-        fate: f,
+        Fate::Lost => s,
     }
 }
 
@@ -104,17 +92,46 @@ pub fn lines_at(d: Device, i: usize) -> u8
     levels::path_at(d, 2) % 16
 }
 
-// The turn of counter i in the device d; its lines were and are, before the step and after (a).
-fn counter_turn(k: Link, timer: bool, were: u8, are: u8, i: usize, d: Device) -> Turned
+// The turn of a counter and its source; its lines were and are, before the step and after (a).
+fn turn_of(
+    version: u8,
+    enabled: bool,
+    c: Counter,
+    s: Source,
+    k: Link,
+    timer: bool,
+    were: u8,
+    are: u8,
+) -> Turn
+    ensures { λ t. ⌜ t ≡ turnBy (turnOf version enabled (reachOf c k timer were are) c) s ⌝ }
+{
+    let r = counters::turn(version, enabled, c, k, timer, were, are);
+    let f = sources::fate(true, r.terminal, s);
+    let moved = r.counter;
+    Turn {
+        counter: moved,
+        source: after_fate(s, f),
+        came: came(f),
+        lost: was_lost(f),
+    }
+}
+
+// That of counter i of the device d.
+fn counter_turn(k: Link, timer: bool, were: u8, are: u8, i: usize, d: Device) -> Turn
     requires { ⌜ i < 3 ⌝ }
-    ensures { λ t. ⌜ t ≡ counterTurn k timer were are i d ⌝ }
+    ensures { λ t. ⌜ t ≡ turnAt k timer were are i d ⌝ }
 {
     let c = d.counters[i];
-    let enabled = levels::counter_on(d.config, i);
-    turned_by(
-        d,
-        i,
-        counters::turn(d.version, enabled, c, k, timer, were, are),
+    let s = d.sources[Source::of_counter(i)];
+    turn_of(
+        d.version,
+        levels::counter_on(d.config, i),
+        c,
+        s,
+        k,
+        timer,
+        were,
+        are,
     )
 }
 
@@ -131,18 +148,18 @@ pub fn link(lc: u8, before: bool, after: bool) -> Link
     }
 }
 
+// What reaches the counters 1 and 3: nothing of a link.
+const UNLINKED: Link = Link {
+    trigger: false,
+    gate: true,
+    only: false,
+    count: false,
+};
+
 fn ct1_output(version: u8, d: Device) -> bool
     ensures { λ r. ⌜ r ≡ outputOf version (counterAt d 0) ⌝ }
 {
     counters::output(version, d.counters[0])
-}
-
-// The link of the device d1 after (a), from CT1 in the records d0 before the step and b after (b).
-fn linked(d0: Device, d1: Device, b: Device) -> Link
-    ensures { λ r. ⌜ r ≡ linkOf (lc d1) (outputOf (d0 .version) (counterAt d0 0)) (outputOf (d1 .version) (counterAt b 0)) ⌝ }
-{
-    let lc = d1.config % 4;
-    link(lc, ct1_output(d0.version, d0), ct1_output(d1.version, b))
 }
 
 fn caught(enabled: bool, q: Port, path: u8) -> u8
@@ -158,8 +175,15 @@ fn caught_at(d: Device, p: usize) -> Port
     let q = d.ports[p];
     let mut e = q;
     let r = levels::effective_at(d, p);
-    e.catcher = caught(levels::port_enabled(d, p), r, r.outside ^ r.polarity);
+    e.catcher = caught(levels::port_on(d.config, p), r, r.outside ^ r.polarity);
     e
+}
+
+// The ports with their catchers.
+fn caught_ports(d: Device) -> [Port; 3]
+    ensures { λ r. ⌜ r ≡ caughtAt d 0 ∷ caughtAt d 1 ∷ caughtAt d 2 ∷ [] ⌝ }
+{
+    [caught_at(d, 0), caught_at(d, 1), caught_at(d, 2)]
 }
 
 // The catchers of all ports.
@@ -167,7 +191,8 @@ pub fn catch_all(d: Device) -> Device
     ensures { λ r. ⌜ r ≡ catchers d ⌝ }
 {
     let mut e = d;
-    e.ports = [caught_at(d, 0), caught_at(d, 1), caught_at(d, 2)];
+    let ports = caught_ports(d);
+    e.ports = ports;
     e
 }
 
@@ -182,65 +207,62 @@ pub fn matches(enabled: bool, p: Pattern, before: u8, after: u8) -> bool
             | (is_or & pattern::or_match(p, before, after)))
 }
 
-// PMF of port p, and its event.
-fn matched_by(p: usize, matches: bool, d: Device) -> Device
-    requires { ⌜ p < 2 ⌝ }
-    ensures { λ r. ⌜ r ≡ matchedBy p matches d ⌝ }
+// The turn of a port's pattern q and of its source, by what it saw before and after.
+fn side_of(enabled: bool, q: Pattern, before: u8, after: u8, s: Source) -> Side
+    ensures { λ r. ⌜ r ≡ sideBy enabled q before after s ⌝ }
 {
-    let q = d.patterns[p];
-    let mut e = d;
-    e.patterns[p].pmf = matches;
+    let matched = matches(enabled, q, before, after);
     let priority = q.mode / 2 % 4 == 3;
-    event_at(
-        e,
-        Source::of_port(p),
-        q.ioe & !priority,
-        matches & (priority | !q.pmf),
-    )
+    let happens = matched & (priority | !q.pmf);
+    let f = sources::fate(q.ioe & !priority, happens, s);
+    Side {
+        pmf: matched,
+        source: after_fate(s, f),
+    }
 }
 
-fn pattern_turn(p: usize, before: u8, d: Device) -> Device
+// That of port p of the device d.
+fn pattern_turn(p: usize, before: u8, after: u8, d: Device) -> Side
     requires { ⌜ p < 2 ⌝ }
-    ensures { λ r. ⌜ r ≡ patternTurn p before d ⌝ }
+    ensures { λ r. ⌜ r ≡ sideAt p before after d ⌝ }
 {
     let q = d.patterns[p];
-    matched_by(
-        p,
-        matches(levels::port_enabled(d, p), q, before, levels::seen_at(d, p)),
-        d,
-    )
+    let s = d.sources[Source::of_port(p)];
+    side_of(levels::port_on(d.config, p), q, before, after, s)
 }
 
-// Catchers and patterns.
-fn settle(was_a: u8, was_b: u8, d: Device) -> Device
-    ensures { λ r. ⌜ r ≡ settled «was_a» «was_b» d ⌝ }
-{
-    pattern_turn(1, was_b, pattern_turn(0, was_a, catch_all(d)))
-}
-
-// One step, from the record before it and the one after (a).
+// One step, from the record before it and the one after (a): w was seen before, n is seen after (a) and s after (e).
 pub fn step(timer: bool, d0: Device, d1: Device) -> Stepped
     ensures { λ r. ⌜ r ≡ stepOf timer d0 d1 ⌝ }
 {
-    let unlinked = Link {
-        trigger: false,
-        gate: true,
-        only: false,
-        count: false,
-    };
-    let b = counter_turn(unlinked, timer, lines_at(d0, 0), lines_at(d1, 0), 0, d1);
-    let db = b.device;
-    let fb = b.fate;
-    let k = linked(d0, d1, db);
-    let c = counter_turn(k, timer, lines_at(d0, 1), lines_at(d1, 1), 1, db);
-    let dc = c.device;
-    let fc = c.fate;
-    let d = counter_turn(unlinked, timer, lines_at(d0, 2), lines_at(d1, 2), 2, dc);
-    let dd = d.device;
-    let fd = d.fate;
+    let w = levels::look(d0);
+    let n = levels::look(d1);
+    let one = counter_turn(UNLINKED, timer, w.b / 16, n.b / 16, 0, d1);
+    let c1 = one.counter;
+    let s1 = one.source;
+    let output = ct1_output(d0.version, d0);
+    let k = link(d1.config % 4, output, counters::output(d1.version, c1));
+    let two = counter_turn(k, timer, w.b % 16, n.b % 16, 1, d1);
+    let c2 = two.counter;
+    let s2 = two.source;
+    let three = counter_turn(UNLINKED, timer, w.c % 16, n.c % 16, 2, d1);
+    let c3 = three.counter;
+    let s3 = three.source;
+    let mut e = d1;
+    e.counters = [c1, c2, c3];
+    let ports = caught_ports(e);
+    e.ports = ports;
+    let s = levels::look(e);
+    let a = pattern_turn(0, w.seen_a, s.seen_a, d1);
+    let b = pattern_turn(1, w.seen_b, s.seen_b, d1);
+    let sa = a.source;
+    let sb = b.source;
+    e.patterns[0].pmf = a.pmf;
+    e.patterns[1].pmf = b.pmf;
+    e.sources = [s3, sa, s2, sb, s1];
     Stepped {
-        device: settle(levels::seen_at(d0, 0), levels::seen_at(d0, 1), dd),
-        terminals: [came(fb), came(fc), came(fd)],
-        lost: [was_lost(fb), was_lost(fc), was_lost(fd)],
+        device: e,
+        terminals: [one.came, two.came, three.came],
+        lost: [one.lost, two.lost, three.lost],
     }
 }

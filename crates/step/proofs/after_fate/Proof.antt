@@ -1,4 +1,4 @@
-use Rattle.rules.specs.Interrupts.{afterFate}
+use Rattle.step.specs.Parts.{leftBy}
 use borrow.Author.Needs.{needs}
 use Rattle.step.proofs.after_fate.Statement.{statement}
 use Rattle.step.proofs.after_fate.Tie as tie
@@ -9,53 +9,29 @@ enum-told c = search needs
 enum-told-2 : tie.Need-enum-told-2
 enum-told-2 c = search needs
 
-mul-e : tie.Need-mul-e
-mul-e c = search needs
-
-way-write-given-e : tie.Need-way-write-given-e
-way-write-given-e c = search needs
-
 enum-told-3 : tie.Need-enum-told-3
 enum-told-3 c = search needs
-
-mul-e-2 : tie.Need-mul-e-2
-mul-e-2 c = search needs
-
-way-write-given-e-2 : tie.Need-way-write-given-e-2
-way-write-given-e-2 c = search needs
 
 enum-told-4 : tie.Need-enum-told-4
 enum-told-4 c = search needs
 
 returns : tie.Need-returns
-unfolding afterFate
+unfolding leftBy
 returns c = simp (c .enum-told .given .1)
 
 returns-2 : tie.Need-returns-2
-unfolding afterFate
-returns-2 c = simp (c .before .enum-told2 .given .1)
+unfolding leftBy
+returns-2 c = simp (c .enum-told2 .given .1)
 
 returns-3 : tie.Need-returns-3
-unfolding afterFate
-returns-3 c = simp (c .before .enum-told3 .given .1)
+unfolding leftBy
+returns-3 c = simp (c .enum-told3 .given .1)
 
 returns-4 : tie.Need-returns-4
-unfolding afterFate
+unfolding leftBy
 returns-4 c = simp (c .enum-told4 .given .1)
 
 pub after-fate-spec : {M : Type 1} → statement M
 after-fate-spec =
     tie.close
-    (tie.spec
-    enum-told
-    enum-told-2
-    mul-e
-    way-write-given-e
-    enum-told-3
-    mul-e-2
-    way-write-given-e-2
-    enum-told-4
-    returns
-    returns-2
-    returns-3
-    returns-4)
+    (tie.spec enum-told enum-told-2 enum-told-3 enum-told-4 returns returns-2 returns-3 returns-4)

@@ -33,14 +33,14 @@ element-copy-out-q c = search needs
 effective-at-requires : tie.Need-effective-at-requires
 effective-at-requires c κs = search needs
 
-port-enabled-requires : tie.Need-port-enabled-requires
-port-enabled-requires c κs = search needs
+port-on-requires : tie.Need-port-on-requires
+port-on-requires c κs = search needs
 
 caught-requires : tie.Need-caught-requires
 caught-requires c κs = search needs
 
 returns : tie.Need-returns
-returns c = caught-here _ _ _ _ _ (c .before .before .port-enabled .ensures) (c .before .before .before .effective-at .ensures) (c .caught .ensures)
+returns c = caught-here _ _ _ _ _ (c .before .before .port-on .ensures) (c .before .before .before .effective-at .ensures) (c .caught .ensures)
 
 pub caught-at-spec : {M : Type 1} → statement M
 caught-at-spec =
@@ -49,6 +49,6 @@ caught-at-spec =
     mul-q
     element-copy-out-q
     effective-at-requires
-    port-enabled-requires
+    port-on-requires
     caught-requires
     returns)

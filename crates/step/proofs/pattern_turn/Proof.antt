@@ -1,4 +1,5 @@
-use Rattle.rules.specs.Step.{patternTurn}
+use native.Mathlib.Nat.{mod-eq-of-lt}
+use Rattle.step.specs.Parts.{sideAt}
 use borrow.Author.Needs.{needs}
 use Rattle.step.proofs.pattern_turn.Statement.{statement}
 use Rattle.step.proofs.pattern_turn.Tie as tie
@@ -9,21 +10,24 @@ mul-q c = search needs
 element-copy-out-q : tie.Need-element-copy-out-q
 element-copy-out-q c = search needs
 
-port-enabled-requires : tie.Need-port-enabled-requires
-port-enabled-requires c κs = search needs
+of-port-requires : tie.Need-of-port-requires
+of-port-requires c κs = search needs
 
-seen-at-requires : tie.Need-seen-at-requires
-seen-at-requires c κs = search needs
+mul-s : tie.Need-mul-s
+mul-s c = search needs
 
-matches-requires : tie.Need-matches-requires
-matches-requires c κs = search needs
+element-copy-out-s : tie.Need-element-copy-out-s
+element-copy-out-s c = search needs
 
-matched-by-requires : tie.Need-matched-by-requires
-matched-by-requires c κs = search needs
+port-on-requires : tie.Need-port-on-requires
+port-on-requires c κs = search needs
+
+side-of-requires : tie.Need-side-of-requires
+side-of-requires c κs = search needs
 
 returns : tie.Need-returns
-unfolding patternTurn
-returns c = simp (c .matched-by .ensures, c .before .matches .ensures, c .before .before .seen-at .ensures, c .before .before .before .port-enabled .ensures)
+unfolding sideAt
+returns c = simp (c .side-of .ensures, c .before .port-on .ensures, c .before .before .before .of-port .ensures, mod-eq-of-lt (c .before .before .before .before .before .pre))
 
 pub pattern-turn-spec : {M : Type 1} → statement M
 pattern-turn-spec =
@@ -31,8 +35,9 @@ pattern-turn-spec =
     (tie.spec
     mul-q
     element-copy-out-q
-    port-enabled-requires
-    seen-at-requires
-    matches-requires
-    matched-by-requires
+    of-port-requires
+    mul-s
+    element-copy-out-s
+    port-on-requires
+    side-of-requires
     returns)

@@ -1,121 +1,108 @@
-use Rattle.rules.specs.Step.{stepOf}
+use mathlib.Core.Path.{_≡_, ap₂, _∙_}
+use lib.ListN.{length}
+use Rattle.rules.specs.Counters.{linkOf}
+use Rattle.basics.proofs.Lists.{length-mapped}
+use Rattle.step.proofs.Apart.{put-together}
 use borrow.Author.Needs.{needs}
 use Rattle.step.proofs.step.Statement.{statement}
 use Rattle.step.proofs.step.Tie as tie
 
-lines-at-requires : tie.Need-lines-at-requires
-lines-at-requires c κs = search needs
+-- as many as the struct has
+two : (c : tie.Start) → length (c .args .d1 .patterns) ≡ 2
+two c = search (needs, length-mapped)
 
-lines-at-requires-2 : tie.Need-lines-at-requires-2
-lines-at-requires-2 c κs = search needs
+three : (c : tie.Start) → length (c .args .d1 .counters) ≡ 3
+three c = search (needs, length-mapped)
+
+five : (c : tie.Start) → length (c .args .d1 .sources) ≡ 5
+five c = search (needs, length-mapped)
+
+look-requires : tie.Need-look-requires
+look-requires c κs = search needs
+
+look-requires-2 : tie.Need-look-requires-2
+look-requires-2 c κs = search needs
 
 counter-turn-requires : tie.Need-counter-turn-requires
 counter-turn-requires c κs = search needs
 
-linked-requires : tie.Need-linked-requires
-linked-requires c κs = search needs
+ct1-output-requires : tie.Need-ct1-output-requires
+ct1-output-requires c κs = search needs
 
-lines-at-requires-3 : tie.Need-lines-at-requires-3
-lines-at-requires-3 c κs = search needs
+output-requires : tie.Need-output-requires
+output-requires c κs = search needs
 
-lines-at-requires-4 : tie.Need-lines-at-requires-4
-lines-at-requires-4 c κs = search needs
+link-requires : tie.Need-link-requires
+link-requires c κs = search needs
 
 counter-turn-requires-2 : tie.Need-counter-turn-requires-2
 counter-turn-requires-2 c κs = search needs
 
-lines-at-requires-5 : tie.Need-lines-at-requires-5
-lines-at-requires-5 c κs = search needs
-
-lines-at-requires-6 : tie.Need-lines-at-requires-6
-lines-at-requires-6 c κs = search needs
-
 counter-turn-requires-3 : tie.Need-counter-turn-requires-3
 counter-turn-requires-3 c κs = search needs
 
-seen-at-requires : tie.Need-seen-at-requires
-seen-at-requires c κs = search needs
+caught-ports-requires : tie.Need-caught-ports-requires
+caught-ports-requires c κs = search needs
 
-seen-at-requires-2 : tie.Need-seen-at-requires-2
-seen-at-requires-2 c κs = search needs
+look-requires-3 : tie.Need-look-requires-3
+look-requires-3 c κs = search needs
 
-settle-requires : tie.Need-settle-requires
-settle-requires c κs = search needs
+pattern-turn-requires : tie.Need-pattern-turn-requires
+pattern-turn-requires c κs = search needs
 
-came-requires : tie.Need-came-requires
-came-requires c κs = search needs
+pattern-turn-requires-2 : tie.Need-pattern-turn-requires-2
+pattern-turn-requires-2 c κs = search needs
 
-came-requires-2 : tie.Need-came-requires-2
-came-requires-2 c κs = search needs
+way-write-given-e : tie.Need-way-write-given-e
+way-write-given-e c = search needs
 
-came-requires-3 : tie.Need-came-requires-3
-came-requires-3 c κs = search needs
-
-was-lost-requires : tie.Need-was-lost-requires
-was-lost-requires c κs = search needs
-
-was-lost-requires-2 : tie.Need-was-lost-requires-2
-was-lost-requires-2 c κs = search needs
-
-was-lost-requires-3 : tie.Need-was-lost-requires-3
-was-lost-requires-3 c κs = search needs
+way-write-given-e-2 : tie.Need-way-write-given-e-2
+way-write-given-e-2 c = search needs
 
 returns : tie.Need-returns
-unfolding stepOf
 returns c =
-    let at-came = c .before .before .before in
-    let at-settle = at-came .before .before .before in
-    let at-seen = at-settle .before .before in
-    let at-d = at-seen .before .before in
-    let d-lines = at-d .before in
-    let at-c = d-lines .before .before .before in
-    let c-lines = at-c .before in
-    let at-link = c-lines .before .before in
-    let at-b = at-link .before .before in
-    let b-lines = at-b .before in
-    simp (
-      c .was-lost3 .ensures,
-      c .before .was-lost2 .ensures,
-      c .before .before .was-lost .ensures,
-      at-came .came3 .ensures,
-      at-came .before .came2 .ensures,
-      at-came .before .before .came .ensures,
-      at-settle .settle .ensures,
-      at-settle .before .seen-at2 .ensures,
-      at-seen .seen-at .ensures,
-      at-d .counter-turn3 .ensures,
-      d-lines .lines-at6 .ensures,
-      d-lines .before .lines-at5 .ensures,
-      at-c .counter-turn2 .ensures,
-      c-lines .lines-at4 .ensures,
-      c-lines .before .lines-at3 .ensures,
-      at-link .linked .ensures,
-      at-b .counter-turn .ensures,
-      b-lines .lines-at2 .ensures,
-      b-lines .before .lines-at .ensures,
-    )
+    let at-sides = c .before .before .before .before .before in
+    let at-caught = at-sides .before .before .before in
+    let at-three = at-caught .before .before .before .before in
+    let at-two = at-three .before .before .before .before .before in
+    let at-link = at-two .before .before .before in
+    let at-one = at-link .before .before .before .before .before .before in
+    let after-a = at-one .before .before .before in
+    let start = after-a .before .before in
+    put-together
+    _
+    _
+    _
+    (two start)
+    (three start)
+    (five start)
+    (after-a .before .look .ensures)
+    (after-a .look2 .ensures)
+    (at-one .counter-turn .ensures)
+    (at-link .link .ensures ∙ ap₂ (linkOf _) (at-link .before .before .before .ct1-output .ensures) (at-link .before .output .ensures))
+    (at-two .counter-turn2 .ensures)
+    (at-three .counter-turn3 .ensures)
+    (at-caught .caught-ports .ensures)
+    (at-sides .before .before .look3 .ensures)
+    (at-sides .before .pattern-turn .ensures)
+    (at-sides .pattern-turn2 .ensures)
 
 pub step-spec : {M : Type 1} → statement M
 step-spec =
     tie.close
     (tie.spec
-    lines-at-requires
-    lines-at-requires-2
+    look-requires
+    look-requires-2
     counter-turn-requires
-    linked-requires
-    lines-at-requires-3
-    lines-at-requires-4
+    ct1-output-requires
+    output-requires
+    link-requires
     counter-turn-requires-2
-    lines-at-requires-5
-    lines-at-requires-6
     counter-turn-requires-3
-    seen-at-requires
-    seen-at-requires-2
-    settle-requires
-    came-requires
-    came-requires-2
-    came-requires-3
-    was-lost-requires
-    was-lost-requires-2
-    was-lost-requires-3
+    caught-ports-requires
+    look-requires-3
+    pattern-turn-requires
+    pattern-turn-requires-2
+    way-write-given-e
+    way-write-given-e-2
     returns)
