@@ -3,13 +3,10 @@ mod data;
 
 ghost use mathlib.Core.Path.{_≡_};
 ghost use Prim.Native.Nat.{_<_};
-ghost use Rattle.basics.specs.Byte.{withByte};
-ghost use Rattle.rules.specs.Record.{portAt, patternAt, counterAt, vacant};
-ghost use Rattle.rules.specs.With.{withVector, withPort, withPattern, withCounter, withPolarity, withDirection, withSpecial, withConstant, withMode};
-ghost use Rattle.rules.specs.With.{withPortMode, withHandshake, withPatternPolarity, withTransition, withMask};
-ghost use Rattle.rules.specs.Registers.{kindOf, kept};
+ghost use Rattle.rules.specs.Record.{vacant};
+ghost use Rattle.rules.specs.Registers.{kindOf};
 ghost use Rattle.rules.specs.Counters.{enabledBy};
-ghost use Rattle.rules.specs.Access.{masterWritten, keptBy, configWritten, portCommanded, counterCommanded, dataWritten, setUp, writtenOf};
+ghost use Rattle.rules.specs.Access.{masterWritten, keptBy, configWritten, portCommanded, counterCommanded, dataWritten, writtenOf};
 ghost use Rattle.registers.specs.Place.{place, places};
 use rules::Counter;
 use rules::Device;
@@ -81,42 +78,6 @@ fn write_config(d: Device, b: u8) -> Device
     e
 }
 
-fn write_vector(d: Device, v: usize, b: u8) -> Device
-    requires { ⌜ v < 3 ⌝ }
-    ensures { λ r. ⌜ r ≡ withVector d v b ⌝ }
-{
-    let mut e = d;
-    e.vectors[v] = b;
-    e
-}
-
-fn write_polarity(d: Device, p: usize, b: u8) -> Device
-    requires { ⌜ p < 3 ⌝ }
-    ensures { λ r. ⌜ r ≡ withPort d p (withPolarity (portAt d p) (kept p b)) ⌝ }
-{
-    let mut e = d;
-    e.ports[p].polarity = data::keep(p, b);
-    e
-}
-
-fn write_direction(d: Device, p: usize, b: u8) -> Device
-    requires { ⌜ p < 3 ⌝ }
-    ensures { λ r. ⌜ r ≡ withPort d p (withDirection (portAt d p) (kept p b)) ⌝ }
-{
-    let mut e = d;
-    e.ports[p].direction = data::keep(p, b);
-    e
-}
-
-fn write_special(d: Device, p: usize, b: u8) -> Device
-    requires { ⌜ p < 3 ⌝ }
-    ensures { λ r. ⌜ r ≡ withPort d p (withSpecial (portAt d p) (kept p b)) ⌝ }
-{
-    let mut e = d;
-    e.ports[p].special = data::keep(p, b);
-    e
-}
-
 fn command_port(d: Device, p: usize, b: u8) -> Device
     requires { ⌜ p < 2 ⌝ }
     ensures { λ r. ⌜ r ≡ portCommanded d p b ⌝ }
@@ -156,97 +117,42 @@ fn write_data(d: Device, p: usize, b: u8) -> Device
     e
 }
 
-fn write_constant(d: Device, i: usize, high: bool, b: u8) -> Device
-    requires { ⌜ i < 3 ⌝ }
-    ensures { λ r. ⌜ r ≡ withCounter d i (withConstant (counterAt d i) (withByte high (counterAt d i .constant) b)) ⌝ }
-{
-    let n = basics::with_byte(high, d.counters[i].constant, b);
-    let mut e = d;
-    e.counters[i].constant = n;
-    e
-}
-
-fn write_mode(d: Device, i: usize, b: u8) -> Device
-    requires { ⌜ i < 3 ⌝ }
-    ensures { λ r. ⌜ r ≡ withCounter d i (withMode (counterAt d i) b) ⌝ }
-{
-    let mut e = d;
-    e.counters[i].mode = b;
-    e
-}
-
-fn write_port_mode(d: Device, p: usize, b: u8) -> Device
-    requires { ⌜ p < 2 ⌝ }
-    ensures { λ r. ⌜ r ≡ setUp d p (withPortMode (patternAt d p) b) ⌝ }
-{
-    let mut e = d;
-    e.patterns[p].mode = b;
-    e.transfers[p] = none_held();
-    e
-}
-
-fn write_handshake(d: Device, p: usize, b: u8) -> Device
-    requires { ⌜ p < 2 ⌝ }
-    ensures { λ r. ⌜ r ≡ setUp d p (withHandshake (patternAt d p) b) ⌝ }
-{
-    let mut e = d;
-    e.patterns[p].handshake = b;
-    e.transfers[p] = none_held();
-    e
-}
-
-fn write_pattern_polarity(d: Device, p: usize, b: u8) -> Device
-    requires { ⌜ p < 2 ⌝ }
-    ensures { λ r. ⌜ r ≡ withPattern d p (withPatternPolarity (patternAt d p) b) ⌝ }
-{
-    let mut e = d;
-    e.patterns[p].polarity = b;
-    e
-}
-
-fn write_transition(d: Device, p: usize, b: u8) -> Device
-    requires { ⌜ p < 2 ⌝ }
-    ensures { λ r. ⌜ r ≡ withPattern d p (withTransition (patternAt d p) b) ⌝ }
-{
-    let mut e = d;
-    e.patterns[p].transition = b;
-    e
-}
-
-fn write_mask(d: Device, p: usize, b: u8) -> Device
-    requires { ⌜ p < 2 ⌝ }
-    ensures { λ r. ⌜ r ≡ withPattern d p (withMask (patternAt d p) b) ⌝ }
-{
-    let mut e = d;
-    e.patterns[p].mask = b;
-    e
-}
-
+// The table of the registers, an arm for each. It writes one record in place: arms that each return one took twice the instructions.
 fn write_kind(d: Device, k: Kind, b: u8) -> Device
     requires { ⌜ place k < places k ⌝ }
     ensures { λ r. ⌜ r ≡ writtenOf d k b ⌝ }
 {
+    let mut e = d;
     match k {
-        Kind::Master => write_master(d, b),
-        Kind::Config => write_config(d, b),
-        Kind::Vector(v) => write_vector(d, v, b),
-        Kind::Polarity(p) => write_polarity(d, p, b),
-        Kind::Direction(p) => write_direction(d, p, b),
-        Kind::Special(p) => write_special(d, p, b),
-        Kind::PortCommand(p) => command_port(d, p, b),
-        Kind::CounterCommand(i) => command_counter(d, i, b),
-        Kind::Data(p) => write_data(d, p, b),
-        Kind::Current(_, _) => d,
-        Kind::Constant(i, high) => write_constant(d, i, high, b),
-        Kind::CounterMode(i) => write_mode(d, i, b),
-        Kind::CurrentVector => d,
-        Kind::PortMode(p) => write_port_mode(d, p, b),
-        Kind::Handshake(p) => write_handshake(d, p, b),
-        Kind::PatternPolarity(p) => write_pattern_polarity(d, p, b),
-        Kind::Transition(p) => write_transition(d, p, b),
-        Kind::Mask(p) => write_mask(d, p, b),
-        Kind::Absent => d,
+        Kind::Master => e = write_master(d, b),
+        Kind::Config => e = write_config(d, b),
+        Kind::Vector(v) => e.vectors[v] = b,
+        Kind::Polarity(p) => e.ports[p].polarity = data::keep(p, b),
+        Kind::Direction(p) => e.ports[p].direction = data::keep(p, b),
+        Kind::Special(p) => e.ports[p].special = data::keep(p, b),
+        Kind::PortCommand(p) => e = command_port(d, p, b),
+        Kind::CounterCommand(i) => e = command_counter(d, i, b),
+        Kind::Data(p) => e = write_data(d, p, b),
+        Kind::Current(_, _) => {}
+        Kind::Constant(i, high) => {
+            e.counters[i].constant = basics::with_byte(high, d.counters[i].constant, b);
+        }
+        Kind::CounterMode(i) => e.counters[i].mode = b,
+        Kind::CurrentVector => {}
+        Kind::PortMode(p) => {
+            e.patterns[p].mode = b;
+            e.transfers[p] = none_held();
+        }
+        Kind::Handshake(p) => {
+            e.patterns[p].handshake = b;
+            e.transfers[p] = none_held();
+        }
+        Kind::PatternPolarity(p) => e.patterns[p].polarity = b,
+        Kind::Transition(p) => e.patterns[p].transition = b,
+        Kind::Mask(p) => e.patterns[p].mask = b,
+        Kind::Absent => {}
     }
+    e
 }
 
 // The record after the direct effect of a write.

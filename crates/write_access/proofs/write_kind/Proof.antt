@@ -19,26 +19,44 @@ write-config-requires c κs = search needs
 enum-known-k : tie.Need-enum-known-k
 enum-known-k c = search needs
 
-write-vector-requires : tie.Need-write-vector-requires
-write-vector-requires c κs = inside (c .before .k .given .1) (c .before .before .before .pre)
+element-write-e : tie.Need-element-write-e
+element-write-e c = inside (c .before .k .given .1) (c .before .before .before .pre)
 
 enum-known-k-2 : tie.Need-enum-known-k-2
 enum-known-k-2 c = search needs
 
-write-polarity-requires : tie.Need-write-polarity-requires
-write-polarity-requires c κs = inside (c .before .k2 .given .1) (c .before .before .before .pre)
+keep-requires : tie.Need-keep-requires
+keep-requires c κs = search needs
+
+mul-e : tie.Need-mul-e
+mul-e c = search (needs, inside (c .before .before .k2 .given .1) (c .before .before .before .before .pre))
+
+way-write-given-e : tie.Need-way-write-given-e
+way-write-given-e c = search (needs, inside (c .before .before .k2 .given .1) (c .before .before .before .before .pre))
 
 enum-known-k-3 : tie.Need-enum-known-k-3
 enum-known-k-3 c = search needs
 
-write-direction-requires : tie.Need-write-direction-requires
-write-direction-requires c κs = inside (c .before .k3 .given .1) (c .before .before .before .pre)
+keep-requires-2 : tie.Need-keep-requires-2
+keep-requires-2 c κs = search needs
+
+mul-e-2 : tie.Need-mul-e-2
+mul-e-2 c = search (needs, inside (c .before .before .k3 .given .1) (c .before .before .before .before .pre))
+
+way-write-given-e-2 : tie.Need-way-write-given-e-2
+way-write-given-e-2 c = search (needs, inside (c .before .before .k3 .given .1) (c .before .before .before .before .pre))
 
 enum-known-k-4 : tie.Need-enum-known-k-4
 enum-known-k-4 c = search needs
 
-write-special-requires : tie.Need-write-special-requires
-write-special-requires c κs = inside (c .before .k4 .given .1) (c .before .before .before .pre)
+keep-requires-3 : tie.Need-keep-requires-3
+keep-requires-3 c κs = search needs
+
+mul-e-3 : tie.Need-mul-e-3
+mul-e-3 c = search (needs, inside (c .before .before .k4 .given .1) (c .before .before .before .before .pre))
+
+way-write-given-e-3 : tie.Need-way-write-given-e-3
+way-write-given-e-3 c = search (needs, inside (c .before .before .k4 .given .1) (c .before .before .before .before .pre))
 
 enum-known-k-5 : tie.Need-enum-known-k-5
 enum-known-k-5 c = search needs
@@ -64,14 +82,29 @@ enum-told-3 c = search needs
 enum-known-k-8 : tie.Need-enum-known-k-8
 enum-known-k-8 c = search needs
 
-write-constant-requires : tie.Need-write-constant-requires
-write-constant-requires c κs = inside (c .before .k8 .given .1) (c .before .before .before .pre)
+mul-with-byte : tie.Need-mul-with-byte
+mul-with-byte c = search (needs, inside (c .before .k8 .given .1) (c .before .before .before .pre))
+
+element-copy-out-with-byte : tie.Need-element-copy-out-with-byte
+element-copy-out-with-byte c = search (needs, inside (c .before .k8 .given .1) (c .before .before .before .pre))
+
+with-byte-requires : tie.Need-with-byte-requires
+with-byte-requires c κs = search needs
+
+mul-e-4 : tie.Need-mul-e-4
+mul-e-4 c = search (needs, inside (c .before .before .k8 .given .1) (c .before .before .before .before .pre))
+
+way-write-given-e-4 : tie.Need-way-write-given-e-4
+way-write-given-e-4 c = search (needs, inside (c .before .before .k8 .given .1) (c .before .before .before .before .pre))
 
 enum-known-k-9 : tie.Need-enum-known-k-9
 enum-known-k-9 c = search needs
 
-write-mode-requires : tie.Need-write-mode-requires
-write-mode-requires c κs = inside (c .before .k9 .given .1) (c .before .before .before .pre)
+mul-e-5 : tie.Need-mul-e-5
+mul-e-5 c = search (needs, inside (c .before .k9 .given .1) (c .before .before .before .pre))
+
+way-write-given-e-5 : tie.Need-way-write-given-e-5
+way-write-given-e-5 c = search (needs, inside (c .before .k9 .given .1) (c .before .before .before .pre))
 
 enum-told-4 : tie.Need-enum-told-4
 enum-told-4 c = search needs
@@ -79,32 +112,65 @@ enum-told-4 c = search needs
 enum-known-k-10 : tie.Need-enum-known-k-10
 enum-known-k-10 c = search needs
 
-write-port-mode-requires : tie.Need-write-port-mode-requires
-write-port-mode-requires c κs = inside (c .before .k10 .given .1) (c .before .before .before .pre)
+mul-e-6 : tie.Need-mul-e-6
+mul-e-6 c = search (needs, inside (c .before .k10 .given .1) (c .before .before .before .pre))
+
+way-write-given-e-6 : tie.Need-way-write-given-e-6
+way-write-given-e-6 c = search (needs, inside (c .before .k10 .given .1) (c .before .before .before .pre))
+
+none-held-requires : tie.Need-none-held-requires
+none-held-requires c κs = search needs
+
+mul-t57 : tie.Need-mul-t57
+mul-t57 c = search (needs, inside (c .before .before .before .k10 .given .1) (c .before .before .before .before .before .pre))
+
+element-set-from-e : tie.Need-element-set-from-e
+element-set-from-e c = search (needs, inside (c .before .before .before .k10 .given .1) (c .before .before .before .before .before .pre))
 
 enum-known-k-11 : tie.Need-enum-known-k-11
 enum-known-k-11 c = search needs
 
-write-handshake-requires : tie.Need-write-handshake-requires
-write-handshake-requires c κs = inside (c .before .k11 .given .1) (c .before .before .before .pre)
+mul-e-7 : tie.Need-mul-e-7
+mul-e-7 c = search (needs, inside (c .before .k11 .given .1) (c .before .before .before .pre))
+
+way-write-given-e-7 : tie.Need-way-write-given-e-7
+way-write-given-e-7 c = search (needs, inside (c .before .k11 .given .1) (c .before .before .before .pre))
+
+none-held-requires-2 : tie.Need-none-held-requires-2
+none-held-requires-2 c κs = search needs
+
+mul-t63 : tie.Need-mul-t63
+mul-t63 c = search (needs, inside (c .before .before .before .k11 .given .1) (c .before .before .before .before .before .pre))
+
+element-set-from-e-2 : tie.Need-element-set-from-e-2
+element-set-from-e-2 c = search (needs, inside (c .before .before .before .k11 .given .1) (c .before .before .before .before .before .pre))
 
 enum-known-k-12 : tie.Need-enum-known-k-12
 enum-known-k-12 c = search needs
 
-write-pattern-polarity-requires : tie.Need-write-pattern-polarity-requires
-write-pattern-polarity-requires c κs = inside (c .before .k12 .given .1) (c .before .before .before .pre)
+mul-e-8 : tie.Need-mul-e-8
+mul-e-8 c = search (needs, inside (c .before .k12 .given .1) (c .before .before .before .pre))
+
+way-write-given-e-8 : tie.Need-way-write-given-e-8
+way-write-given-e-8 c = search (needs, inside (c .before .k12 .given .1) (c .before .before .before .pre))
 
 enum-known-k-13 : tie.Need-enum-known-k-13
 enum-known-k-13 c = search needs
 
-write-transition-requires : tie.Need-write-transition-requires
-write-transition-requires c κs = inside (c .before .k13 .given .1) (c .before .before .before .pre)
+mul-e-9 : tie.Need-mul-e-9
+mul-e-9 c = search (needs, inside (c .before .k13 .given .1) (c .before .before .before .pre))
+
+way-write-given-e-9 : tie.Need-way-write-given-e-9
+way-write-given-e-9 c = search (needs, inside (c .before .k13 .given .1) (c .before .before .before .pre))
 
 enum-known-k-14 : tie.Need-enum-known-k-14
 enum-known-k-14 c = search needs
 
-write-mask-requires : tie.Need-write-mask-requires
-write-mask-requires c κs = inside (c .before .k14 .given .1) (c .before .before .before .pre)
+mul-e-10 : tie.Need-mul-e-10
+mul-e-10 c = search (needs, inside (c .before .k14 .given .1) (c .before .before .before .pre))
+
+way-write-given-e-10 : tie.Need-way-write-given-e-10
+way-write-given-e-10 c = search (needs, inside (c .before .k14 .given .1) (c .before .before .before .pre))
 
 enum-told-5 : tie.Need-enum-told-5
 enum-told-5 c = search needs
@@ -119,19 +185,19 @@ returns-2 c = simp (c .before .enum-told2 .given .1, c .write-config .ensures)
 
 returns-3 : tie.Need-returns-3
 unfolding writtenOf
-returns-3 c = simp (c .before .before .k .given .1, c .write-vector .ensures)
+returns-3 c = simp (c .before .k .given .1)
 
 returns-4 : tie.Need-returns-4
 unfolding writtenOf
-returns-4 c = simp (c .before .before .k2 .given .1, c .write-polarity .ensures)
+returns-4 c = simp (c .before .before .before .k2 .given .1, c .before .keep .ensures)
 
 returns-5 : tie.Need-returns-5
 unfolding writtenOf
-returns-5 c = simp (c .before .before .k3 .given .1, c .write-direction .ensures)
+returns-5 c = simp (c .before .before .before .k3 .given .1, c .before .keep2 .ensures)
 
 returns-6 : tie.Need-returns-6
 unfolding writtenOf
-returns-6 c = simp (c .before .before .k4 .given .1, c .write-special .ensures)
+returns-6 c = simp (c .before .before .before .k4 .given .1, c .before .keep3 .ensures)
 
 returns-7 : tie.Need-returns-7
 unfolding writtenOf
@@ -151,11 +217,11 @@ returns-10 c = simp (c .enum-told3 .given .1)
 
 returns-11 : tie.Need-returns-11
 unfolding writtenOf
-returns-11 c = simp (c .before .before .k8 .given .1, c .write-constant .ensures)
+returns-11 c = simp (c .before .before .before .k8 .given .1, c .before .with-byte .ensures)
 
 returns-12 : tie.Need-returns-12
 unfolding writtenOf
-returns-12 c = simp (c .before .before .k9 .given .1, c .write-mode .ensures)
+returns-12 c = simp (c .before .before .k9 .given .1)
 
 returns-13 : tie.Need-returns-13
 unfolding writtenOf
@@ -163,23 +229,23 @@ returns-13 c = simp (c .enum-told4 .given .1)
 
 returns-14 : tie.Need-returns-14
 unfolding writtenOf
-returns-14 c = simp (c .before .before .k10 .given .1, c .write-port-mode .ensures)
+returns-14 c = simp (c .before .before .before .k10 .given .1, c .none-held .ensures)
 
 returns-15 : tie.Need-returns-15
 unfolding writtenOf
-returns-15 c = simp (c .before .before .k11 .given .1, c .write-handshake .ensures)
+returns-15 c = simp (c .before .before .before .k11 .given .1, c .none-held2 .ensures)
 
 returns-16 : tie.Need-returns-16
 unfolding writtenOf
-returns-16 c = simp (c .before .before .k12 .given .1, c .write-pattern-polarity .ensures)
+returns-16 c = simp (c .before .before .k12 .given .1)
 
 returns-17 : tie.Need-returns-17
 unfolding writtenOf
-returns-17 c = simp (c .before .before .k13 .given .1, c .write-transition .ensures)
+returns-17 c = simp (c .before .before .k13 .given .1)
 
 returns-18 : tie.Need-returns-18
 unfolding writtenOf
-returns-18 c = simp (c .before .before .k14 .given .1, c .write-mask .ensures)
+returns-18 c = simp (c .before .before .k14 .given .1)
 
 returns-19 : tie.Need-returns-19
 unfolding writtenOf
@@ -194,13 +260,19 @@ write-kind-spec =
     enum-told-2
     write-config-requires
     enum-known-k
-    write-vector-requires
+    element-write-e
     enum-known-k-2
-    write-polarity-requires
+    keep-requires
+    mul-e
+    way-write-given-e
     enum-known-k-3
-    write-direction-requires
+    keep-requires-2
+    mul-e-2
+    way-write-given-e-2
     enum-known-k-4
-    write-special-requires
+    keep-requires-3
+    mul-e-3
+    way-write-given-e-3
     enum-known-k-5
     command-port-requires
     enum-known-k-6
@@ -209,20 +281,36 @@ write-kind-spec =
     write-data-requires
     enum-told-3
     enum-known-k-8
-    write-constant-requires
+    mul-with-byte
+    element-copy-out-with-byte
+    with-byte-requires
+    mul-e-4
+    way-write-given-e-4
     enum-known-k-9
-    write-mode-requires
+    mul-e-5
+    way-write-given-e-5
     enum-told-4
     enum-known-k-10
-    write-port-mode-requires
+    mul-e-6
+    way-write-given-e-6
+    none-held-requires
+    mul-t57
+    element-set-from-e
     enum-known-k-11
-    write-handshake-requires
+    mul-e-7
+    way-write-given-e-7
+    none-held-requires-2
+    mul-t63
+    element-set-from-e-2
     enum-known-k-12
-    write-pattern-polarity-requires
+    mul-e-8
+    way-write-given-e-8
     enum-known-k-13
-    write-transition-requires
+    mul-e-9
+    way-write-given-e-9
     enum-known-k-14
-    write-mask-requires
+    mul-e-10
+    way-write-given-e-10
     enum-told-5
     returns
     returns-2
