@@ -32,8 +32,8 @@ use Rattle.image.specs.Image.{agree, restoredOf, saveCode, savedOf}
 use Rattle.image.specs.Pointed.{imageZ8536, restoredZ8536, saveCodeZ8536, savedZ8536}
 use Rattle.input.specs.Input.{unread}
 use Rattle.levels.specs.Looks.{looksOf}
-use Rattle.lines.specs.Lines.{clocksIn, digitOf, eventIn, saysOf}
-use Rattle.lines.specs.Pieces.{cutFrom}
+use Rattle.lines.specs.Lines.{clocksIn, digitOf, eventIn, lineOf, saysOf}
+use Rattle.lines.specs.Pieces.{cutFrom, feedAt}
 use Rattle.measure.specs.Measure.{measureStart, measuredOf, tableOf}
 use Rattle.phrases.specs.Refusals.{refusal, trouble}
 use Rattle.refusals.specs.Known.{knownCode}
@@ -61,7 +61,7 @@ use Rattle.theorems.specs.Moving.{pairOf, pairedBy}
 use Rattle.theorems.specs.Used.{of}
 use Rattle.step.specs.Still.{hasCaught}
 use Rattle.texts.specs.Answers.{answerText, decimalText, glyphOf, levelsText}
-use Rattle.texts.specs.Kept.{bytesOf, noText, pushed, typed}
+use Rattle.texts.specs.Kept.{noText, pushed, typed}
 use Rattle.words.specs.Shown.{pointerLine, shownLine}
 use Rattle.z8536.specs.Z8536.{eventZ8536, freshZ8536, soundZ8536}
 use denote.Ref.{now}
@@ -198,6 +198,8 @@ use Rattle.bench_lines.proofs.compare as bench-lines·compare
 use Rattle.bench_lines.proofs.compare_kept as bench-lines·compare-kept
 use Rattle.bench_lines.proofs.field_name as bench-lines·field-name
 use Rattle.lines.proofs.cut_from as lines·cut-from
+use Rattle.lines.proofs.event_of as lines·event-of
+use Rattle.lines.proofs.line_end as lines·line-end
 use Rattle.lines.proofs.decimal as lines·decimal
 use Rattle.lines.proofs.digit as lines·digit
 use Rattle.lines.proofs.event_of_line as lines·event-of-line
@@ -233,7 +235,7 @@ use Rattle.step.proofs.untimed as step·untimed
 use Rattle.texts.proofs.glyph as texts·glyph
 use Rattle.texts.proofs.decimal as texts·decimal
 use Rattle.texts.proofs.answer_text as texts·answer-text
-use Rattle.texts.proofs.lay as texts·lay
+use Rattle.texts.proofs.write_answer as texts·write-answer
 use Rattle.texts.proofs.no_text as texts·no-text
 use Rattle.texts.proofs.push as texts·push
 use Rattle.write_access.proofs.write as write-access·write
@@ -705,6 +707,9 @@ module _ {M : Type 1} (𝓤 : URA M) where
       one-result 𝓤 lines·cut-from.ended (lines·cut-from.clauses 𝓤)
       (λ κs a. cutFrom (a .0) (a .1 .1 .0) (drop (a .1 .1 .0) (now (a .1 .0)))) refl
 
+  pub lines-line-end : OneResult 𝓤 lines·line-end.ended (lines·line-end.clauses 𝓤)
+  lines-line-end = one-result 𝓤 lines·line-end.ended (lines·line-end.clauses 𝓤) (λ κs a. a .1 .0 + feedAt (drop (a .1 .0) (now (a .0)))) refl
+
   pub lines-digit : OneResult 𝓤 lines·digit.ended (lines·digit.clauses 𝓤)
   lines-digit =
       one-answer 𝓤 lines·digit.ended (lines·digit.clauses 𝓤) (λ κs. ℕ) (λ κs r x. r)
@@ -712,6 +717,9 @@ module _ {M : Type 1} (𝓤 : URA M) where
 
   pub lines-decimal : OneResult 𝓤 lines·decimal.ended (lines·decimal.clauses 𝓤)
   lines-decimal = one-result 𝓤 lines·decimal.ended (lines·decimal.clauses 𝓤) (λ κs a. clocksIn (now (a .0))) refl
+
+  pub lines-event-of : OneResult 𝓤 lines·event-of.ended (lines·event-of.clauses 𝓤)
+  lines-event-of = one-result 𝓤 lines·event-of.ended (lines·event-of.clauses 𝓤) (λ κs a. eventIn (lineOf (now (a .0)))) refl
 
   pub lines-event-of-line : OneResult 𝓤 lines·event-of-line.ended (lines·event-of-line.clauses 𝓤)
   lines-event-of-line = one-result 𝓤 lines·event-of-line.ended (lines·event-of-line.clauses 𝓤) (λ κs a. eventIn (saysOf (a .0))) refl
@@ -814,10 +822,10 @@ module _ {M : Type 1} (𝓤 : URA M) where
   pub texts-answer-text : OneResult 𝓤 texts·answer-text.ended (texts·answer-text.clauses 𝓤)
   texts-answer-text = one-result 𝓤 texts·answer-text.ended (texts·answer-text.clauses 𝓤) (λ κs a. typed noText (answerText (a .0))) refl
 
-  pub texts-lay : OneAnswer 𝓤 texts·lay.ended (texts·lay.clauses 𝓤) (λ κs. ℕ × List ℕ) (λ κs r x. (r, now (x .1 .0)))
-  texts-lay =
-      one-answer 𝓤 texts·lay.ended (texts·lay.clauses 𝓤) (λ κs. ℕ × List ℕ) (λ κs r x. (r, now (x .1 .0)))
-      (λ κs a. (cond (fits (now (a .1 .0)) (a .1 .1 .0) (bytesOf (a .0))) ((a .1 .1 .0) + length (bytesOf (a .0))) (a .1 .1 .0), laidOf (now (a .1 .0)) (a .1 .1 .0) (bytesOf (a .0))))
+  pub texts-write-answer : OneAnswer 𝓤 texts·write-answer.ended (texts·write-answer.clauses 𝓤) (λ κs. ℕ × List ℕ) (λ κs r x. (r, now (x .1 .0)))
+  texts-write-answer =
+      one-answer 𝓤 texts·write-answer.ended (texts·write-answer.clauses 𝓤) (λ κs. ℕ × List ℕ) (λ κs r x. (r, now (x .1 .0)))
+      (λ κs a. (cond (fits (now (a .1 .0)) (a .1 .1 .0) (answerText (a .0))) ((a .1 .1 .0) + length (answerText (a .0))) (a .1 .1 .0), laidOf (now (a .1 .0)) (a .1 .1 .0) (answerText (a .0))))
       (λ H A at-mem run κs a g r x. fact-mono 𝓤 _ _ (λ p i. (p .1 i, p .0 i)))
 
   pub texts-no-text : OneResult 𝓤 texts·no-text.ended (texts·no-text.clauses 𝓤)

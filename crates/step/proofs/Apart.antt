@@ -29,8 +29,9 @@ use Rattle.basics.proofs.Lists.{two, three, five}
 use Rattle.levels.specs.declared.Looks.{Looks}
 use Rattle.levels.specs.Looks.{looksOf}
 use Rattle.step.specs.declared.Turn.{Turn}
-use Rattle.step.specs.declared.Side.{Side}
-use Rattle.step.specs.Parts.{leftBy, turnBy, turnAt, sideBy, sideAt}
+use Rattle.theorems.specs.declared.Side.{Side}
+use Rattle.theorems.specs.Alone.{leftBy}
+use Rattle.step.specs.Parts.{turnBy, turnAt, patternBy, patternAfter}
 
 -- ---- an event leaves at its place what its fate leaves of the source, whichever it is
 fate-at : (d : Device) (k : ℕ) (f : Fate) → afterFate d k f ≡ withSources d (set (d .sources) k (leftBy f (sourceAt d k)))
@@ -67,8 +68,8 @@ partsOf timer d0 d1 =
       two = two;
       three = three;
       caught = e;
-      a = sideAt 0 (seenAt d0 0) (seenAt e 0) d1;
-      b = sideAt 1 (seenAt d0 1) (seenAt e 1) d1;
+      a = patternAfter 0 (seenAt d0 0) (seenAt e 0) d1;
+      b = patternAfter 1 (seenAt d0 1) (seenAt e 1) d1;
     }
 
 -- the record d with that PMF of port p
@@ -149,11 +150,11 @@ module _ (timer : Bool) (d0 d : Device) (c1 c2 c3 : Counter) (q r : Pattern) (s3
   catching = refl
 
   turn-a : patternTurn 0 (seenAt d0 0) (withSources (m .caught) (t3 .device .sources)) ≡ da
-  unfolding patternTurn matchedBy eventAt sideAt sideBy seenAt pathAt pinsAt valueAt directionAt specialAt catchers
+  unfolding patternTurn matchedBy eventAt patternAfter patternBy seenAt pathAt pinsAt valueAt directionAt specialAt catchers
   turn-a = fate-at _ 1 _
 
   turn-b : patternTurn 1 (seenAt d0 1) da ≡ put m .device
-  unfolding patternTurn matchedBy eventAt sideAt sideBy seenAt pathAt pinsAt valueAt directionAt specialAt catchers
+  unfolding patternTurn matchedBy eventAt patternAfter patternBy seenAt pathAt pinsAt valueAt directionAt specialAt catchers
   turn-b = fate-at _ 3 _
 
   settling : settled (seenAt d0 0) (seenAt d0 1) (t3 .device) ≡ put m .device
@@ -203,8 +204,8 @@ module _ (timer : Bool) (d0 d : Device) (patterns : length (d .patterns) ≡ 2) 
       (third : three ≡ turnAt unlinked timer (w .c % 16) (n .c % 16) 2 d)
       (caught : ports ≡ caughtAt (counted d one two three) 0 ∷ caughtAt (counted d one two three) 1 ∷ caughtAt (counted d one two three) 2 ∷ [])
       (after : s ≡ looksOf (withPorts (counted d one two three) ports))
-      (in-a : a ≡ sideAt 0 (w .«seen_a») (s .«seen_a») d)
-      (in-b : b ≡ sideAt 1 (w .«seen_b») (s .«seen_b») d) where
+      (in-a : a ≡ patternAfter 0 (w .«seen_a») (s .«seen_a») d)
+      (in-b : b ≡ patternAfter 1 (w .«seen_b») (s .«seen_b») d) where
     abbrev parts : Parts
     parts = partsOf timer d0 d
 
@@ -233,10 +234,10 @@ module _ (timer : Bool) (d0 d : Device) (patterns : length (d .patterns) ≡ 2) 
     is-after = after ∙ ap looksOf is-caught
 
     is-a : a ≡ parts .a
-    is-a = in-a ∙ (λ i. sideAt 0 (before i .«seen_a») (is-after i .«seen_a») d)
+    is-a = in-a ∙ (λ i. patternAfter 0 (before i .«seen_a») (is-after i .«seen_a») d)
 
     is-b : b ≡ parts .b
-    is-b = in-b ∙ (λ i. sideAt 1 (before i .«seen_b») (is-after i .«seen_b») d)
+    is-b = in-b ∙ (λ i. patternAfter 1 (before i .«seen_b») (is-after i .«seen_b») d)
 
     pub put-together : put (record { one = one; link = k; two = two; three = three; caught = withPorts (counted d one two three) ports; a = a; b = b }) ≡ stepOf timer d0 d
     put-together =

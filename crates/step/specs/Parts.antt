@@ -6,24 +6,15 @@ use Rattle.rules.specs.declared.Device.{Device}
 use Rattle.rules.specs.declared.Counted.{Counted}
 use Rattle.rules.specs.declared.Source.{Source}
 use Rattle.rules.specs.declared.Pattern.{Pattern}
-use Rattle.rules.specs.declared.Fate.{Fate}
-use Rattle.rules.specs.declared.Fate.the-variants.{Nothing, Taken, Kept, Lost}
 use Rattle.rules.specs.declared.Link.{Link}
 use Rattle.rules.specs.Record.{patternAt, counterAt, sourceAt, ofPort, ofCounter}
-use Rattle.rules.specs.With.{withIp, withHidden}
 use Rattle.rules.specs.Registers.{portEnabled, counterEnabled}
 use Rattle.rules.specs.Counters.{reachOf, turnOf}
 use Rattle.rules.specs.Patterns.{matchOf, eventBy, hidesBy}
 use Rattle.rules.specs.Interrupts.{fateOf, came, wasLost}
+use Rattle.theorems.specs.declared.Side.{Side}
+use Rattle.theorems.specs.Alone.{leftBy}
 use Rattle.step.specs.declared.Turn.{Turn}
-use Rattle.step.specs.declared.Side.{Side}
-
--- a source after what became of its event
-unfoldable pub leftBy : Fate → Source → Source
-leftBy Nothing s = s
-leftBy Taken s = withIp s true
-leftBy Kept s = withHidden s true
-leftBy Lost s = s
 
 -- what a counter's turn leaves, with its source
 unfoldable pub turnBy : Counted → Source → Turn
@@ -36,10 +27,10 @@ turnAt link timer were are i d =
     turnBy (turnOf (d .version) (counterEnabled d i) (reachOf (counterAt d i) link timer were are) (counterAt d i)) (sourceAt d (ofCounter i))
 
 -- (f): what the turn of a port's pattern leaves, with the port's source
-unfoldable pub sideBy : Bool → Pattern → ℕ → ℕ → Source → Side
-sideBy enabled q before after s =
+unfoldable pub patternBy : Bool → Pattern → ℕ → ℕ → Source → Side
+patternBy enabled q before after s =
     let m = matchOf enabled q before after in
     record { pmf = m; source = leftBy (fateOf (hidesBy q) (eventBy q (q .pmf) m) s) s }
 
-unfoldable pub sideAt : ℕ → ℕ → ℕ → Device → Side
-sideAt p before after d = sideBy (portEnabled d p) (patternAt d p) before after (sourceAt d (ofPort p))
+unfoldable pub patternAfter : ℕ → ℕ → ℕ → Device → Side
+patternAfter p before after d = patternBy (portEnabled d p) (patternAt d p) before after (sourceAt d (ofPort p))

@@ -11,7 +11,8 @@ ghost use Rattle.rules.specs.PortData.{caughtOf};
 ghost use Rattle.rules.specs.Patterns.{matchOf};
 ghost use Rattle.rules.specs.Interrupts.{came, wasLost};
 ghost use Rattle.rules.specs.Step.{linesAt, catchers, caughtAt, stepOf};
-ghost use Rattle.step.specs.Parts.{leftBy, turnBy, turnAt, sideBy, sideAt};
+ghost use Rattle.theorems.specs.Alone.{leftBy};
+ghost use Rattle.step.specs.Parts.{turnBy, turnAt, patternBy, patternAfter};
 use rules::Counter;
 use rules::Device;
 use rules::Fate;
@@ -22,6 +23,7 @@ use rules::Source;
 use rules::Stepped;
 pub use still::has_caught;
 pub use still::untimed;
+use theorems::Side;
 
 // What a counter's turn leaves: the counter, its source, and whether a terminal came and was lost.
 struct Turn {
@@ -29,12 +31,6 @@ struct Turn {
     source: Source,
     came: bool,
     lost: bool,
-}
-
-// What a pattern's turn leaves: PMF, and the port's source.
-struct Side {
-    pmf: bool,
-    source: Source,
 }
 
 // Whether an event came, and whether it was lost.
@@ -209,7 +205,7 @@ pub fn matches(enabled: bool, p: Pattern, before: u8, after: u8) -> bool
 
 // The turn of a port's pattern q and of its source, by what it saw before and after.
 fn side_of(enabled: bool, q: Pattern, before: u8, after: u8, s: Source) -> Side
-    ensures { λ r. ⌜ r ≡ sideBy enabled q before after s ⌝ }
+    ensures { λ r. ⌜ r ≡ patternBy enabled q before after s ⌝ }
 {
     let matched = matches(enabled, q, before, after);
     let priority = q.mode / 2 % 4 == 3;
@@ -224,7 +220,7 @@ fn side_of(enabled: bool, q: Pattern, before: u8, after: u8, s: Source) -> Side
 // That of port p of the device d.
 fn pattern_turn(p: usize, before: u8, after: u8, d: Device) -> Side
     requires { ⌜ p < 2 ⌝ }
-    ensures { λ r. ⌜ r ≡ sideAt p before after d ⌝ }
+    ensures { λ r. ⌜ r ≡ patternAfter p before after d ⌝ }
 {
     let q = d.patterns[p];
     let s = d.sources[Source::of_port(p)];

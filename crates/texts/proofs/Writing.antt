@@ -1,6 +1,6 @@
 -- Bytes written one part after the other, into a buffer and as a text.
 -- Assumes nothing.
-use Prim.Native.Nat.{ℕ, _+_, _≤_}
+use Prim.Native.Nat.{ℕ, _+_, _≤_, _<_}
 use mathlib.Core.List.{List, [], _∷_, _++_, append-assoc}
 use mathlib.Core.Path.{_≡_, refl, sym, ap, ap₂, _∙_}
 use native.Mathlib.Nat.{add-zero}
@@ -55,6 +55,14 @@ written-paste buf at (b ∷ w) h =
     (ap (λ (k : ℕ). take k (set buf at b)) (add-one at) ∙ take-suc-set buf at b (omega arith))
     (drop-set-lt (at + 1 + n) buf at b (omega arith) ∙ ap (λ (k : ℕ). drop k buf) q)
     ∙ ap (λ (x : List ℕ). x ++ drop (at + length (b ∷ w)) buf) (append-assoc (take at buf) (b ∷ []) (take n w))
+
+-- there is room for a byte after it
+pub wrote-room : {buf w out : List ℕ} {at r k : ℕ} → Wrote k buf at w out r → at + k < length buf → r < length out
+wrote-room {buf} {w} {out} {at} {r} {k} e h =
+    let l = ap length (e .bytes) ∙ written-length buf at w in
+    let p = e .next in
+    let q = e .short in
+    omega arith
 
 pub wrote-laid : {buf w out : List ℕ} {at r k : ℕ} → Wrote k buf at w out r → at + length w ≤ length buf → Laid buf at w out r
 wrote-laid {buf} {w} {out} {at} {r} {k} e h =

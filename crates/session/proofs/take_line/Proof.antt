@@ -22,7 +22,9 @@ roomy : (c : tie.Start) → length (c .args .f .session .text .bytes) ≡ textRo
 roomy c = search needs
 
 -- the line ends in the piece, and nothing is kept of it
-ends : (c : tie.Then1) → (c .before .before .before .before .before .args .f .session .text .len ≡ 0) × (c .before .before .line-end .result < length (now (c .before .before .before .before .before .args .piece)))
+ends : (c : tie.Then1)
+    → (c .before .before .before .before .before .args .f .session .text .len ≡ 0)
+    × (c .before .before .line-end .result < length (now (c .before .before .before .before .before .args .piece)))
 ends c =
     let e = both _ _ (c .if1 .taken) in
     (eqb-true _ _ (e .0), ltb-true _ _ (e .1))
@@ -78,7 +80,8 @@ returns c =
     let told = at-tell .tell .ensures in
     let on = c .told-on .ensures in
     let d = a .f .session .device in (
-      fed-is _ _ _ _ (on .0 ∙ ap startOf (told .0 ∙ ap (toldDevice d) says)) (on .1 .0 ∙ ap (λ (n : ℕ). n + 1) (found .line-end .ensures)) (on .1 .1 ∙ told .1 .1 ∙ ap (toldLen d (now (a .out)) (a .f .len)) says)
+      fed-is _ _ _ _ (on .0 ∙ ap startOf (told .0 ∙ ap (toldDevice d) says)) (on .1 .0 ∙ ap (λ (n : ℕ). n + 1) (found .line-end .ensures))
+          (on .1 .1 ∙ told .1 .1 ∙ ap (toldLen d (now (a .out)) (a .f .len)) says)
           ∙ whole-fed (a .f) piece (now (a .out)) k e refl (start .pre .0),
       told .1 .0 ∙ ap (toldBytes d (now (a .out)) (a .f .len)) says ∙ ap (laidOf (now (a .out)) (a .f .len)) (sym (whole-line (a .f) piece (now (a .out)) k e refl)),
     )

@@ -1,4 +1,4 @@
-use Rattle.step.specs.Parts.{leftBy}
+use Rattle.theorems.specs.Alone.{leftBy}
 use borrow.Author.Needs.{needs}
 use Rattle.step.proofs.after_fate.Statement.{statement}
 use Rattle.step.proofs.after_fate.Tie as tie

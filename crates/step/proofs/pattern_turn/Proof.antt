@@ -1,5 +1,5 @@
 use native.Mathlib.Nat.{mod-eq-of-lt}
-use Rattle.step.specs.Parts.{sideAt}
+use Rattle.step.specs.Parts.{patternAfter}
 use borrow.Author.Needs.{needs}
 use Rattle.step.proofs.pattern_turn.Statement.{statement}
 use Rattle.step.proofs.pattern_turn.Tie as tie
@@ -26,7 +26,7 @@ side-of-requires : tie.Need-side-of-requires
 side-of-requires c κs = search needs
 
 returns : tie.Need-returns
-unfolding sideAt
+unfolding patternAfter
 returns c = simp (c .side-of .ensures, c .before .port-on .ensures, c .before .before .before .of-port .ensures, mod-eq-of-lt (c .before .before .before .before .before .pre))
 
 pub pattern-turn-spec : {M : Type 1} → statement M

@@ -1,5 +1,5 @@
 use Rattle.rules.specs.Patterns.{eventBy, hidesBy}
-use Rattle.step.specs.Parts.{sideBy}
+use Rattle.step.specs.Parts.{patternBy}
 use borrow.Author.Needs.{needs}
 use Rattle.step.proofs.side_of.Statement.{statement}
 use Rattle.step.proofs.side_of.Tie as tie
@@ -14,7 +14,7 @@ after-fate-requires : tie.Need-after-fate-requires
 after-fate-requires c κs = search needs
 
 returns : tie.Need-returns
-unfolding sideBy eventBy hidesBy
+unfolding patternBy eventBy hidesBy
 returns c = simp (c .after-fate .ensures, c .before .fate .ensures, c .before .before .before .before .before .matches .ensures)
 
 pub side-of-spec : {M : Type 1} → statement M

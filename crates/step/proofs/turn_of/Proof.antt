@@ -20,7 +20,9 @@ was-lost-requires c κs = search needs
 
 returns : tie.Need-returns
 unfolding turnBy
-returns c = simp (c .was-lost .ensures, c .before .came .ensures, c .before .before .after-fate .ensures, c .before .before .before .before .fate .ensures, c .before .before .before .before .before .turn .ensures)
+returns c =
+    let at-fate = c .before .before .before .before in
+    simp (c .was-lost .ensures, c .before .came .ensures, c .before .before .after-fate .ensures, at-fate .fate .ensures, at-fate .before .turn .ensures)
 
 pub turn-of-spec : {M : Type 1} → statement M
 turn-of-spec =

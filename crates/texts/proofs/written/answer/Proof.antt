@@ -2,7 +2,7 @@ use mathlib.Core.Path.{_∙_}
 use native.Mathlib.Omega.{arith}
 use borrow.Author.Needs.{needs}
 use Rattle.texts.specs.Answers.{answerText}
-use Rattle.texts.proofs.Writing.{wrote-more}
+use Rattle.texts.proofs.Writing.{wrote-more, wrote-room}
 use Rattle.texts.proofs.written.answer.Statement.{statement}
 use Rattle.texts.proofs.written.answer.Tie as tie
 
@@ -43,8 +43,14 @@ put-requires c κs =
     let at5 = at4 .before .before .before .before in
     let at6 = at5 .before .before .before .before in
     let at7 = at6 .before .before .before .before in
-    let start = at7 .before .before .before .before .before in
-    omega (arith, start .pre, at0 .report .ensures .next, at0 .report .ensures .short, at1 .flag2 .ensures .next, at1 .flag2 .ensures .short, at2 .flag .ensures .next, at2 .flag .ensures .short, at3 .nibble .ensures .next, at3 .nibble .ensures .short, at4 .hex3 .ensures .next, at4 .hex3 .ensures .short, at5 .hex2 .ensures .next, at5 .hex2 .ensures .short, at6 .hex .ensures .next, at6 .hex .ensures .short, at7 .decimal .ensures .next, at7 .decimal .ensures .short, at0 .report .kept .0, at1 .flag2 .kept .0, at2 .flag .kept .0, at3 .nibble .kept .0, at4 .hex3 .kept .0, at5 .hex2 .kept .0, at6 .hex .kept .0, at7 .decimal .kept .0)
+    let w2 = wrote-more (at7 .decimal .ensures) (at6 .hex .ensures) in
+    let w3 = wrote-more w2 (at5 .hex2 .ensures) in
+    let w4 = wrote-more w3 (at4 .hex3 .ensures) in
+    let w5 = wrote-more w4 (at3 .nibble .ensures) in
+    let w6 = wrote-more w5 (at2 .flag .ensures) in
+    let w7 = wrote-more w6 (at1 .flag2 .ensures) in
+    let w8 = wrote-more w7 (at0 .report .ensures) in
+    wrote-room w8 (omega (arith, at7 .before .before .before .before .before .pre))
 
 same-length : tie.Need-same-length
 same-length c =
@@ -57,7 +63,8 @@ same-length c =
     let at6 = at5 .before .before .before .before in
     let at7 = at6 .before .before .before .before in
     let at8 = at7 .before .before .before .before in
-    at0 .put .kept .0 ∙ at1 .report .kept .0 ∙ at2 .flag2 .kept .0 ∙ at3 .flag .kept .0 ∙ at4 .nibble .kept .0 ∙ at5 .hex3 .kept .0 ∙ at6 .hex2 .kept .0 ∙ at7 .hex .kept .0 ∙ at8 .decimal .kept .0
+    at0 .put .kept .0 ∙ at1 .report .kept .0 ∙ at2 .flag2 .kept .0 ∙ at3 .flag .kept .0 ∙ at4 .nibble .kept .0
+    ∙ at5 .hex3 .kept .0 ∙ at6 .hex2 .kept .0 ∙ at7 .hex .kept .0 ∙ at8 .decimal .kept .0
 
 returns : tie.Need-returns
 unfolding answerText
@@ -71,7 +78,14 @@ returns c =
     let at6 = at5 .before .before .before .before in
     let at7 = at6 .before .before .before .before in
     let at8 = at7 .before .before .before .before in
-    wrote-more (wrote-more (wrote-more (wrote-more (wrote-more (wrote-more (wrote-more (wrote-more (at8 .decimal .ensures) (at7 .hex .ensures)) (at6 .hex2 .ensures)) (at5 .hex3 .ensures)) (at4 .nibble .ensures)) (at3 .flag .ensures)) (at2 .flag2 .ensures)) (at1 .report .ensures)) (at0 .put .ensures)
+    let w2 = wrote-more (at8 .decimal .ensures) (at7 .hex .ensures) in
+    let w3 = wrote-more w2 (at6 .hex2 .ensures) in
+    let w4 = wrote-more w3 (at5 .hex3 .ensures) in
+    let w5 = wrote-more w4 (at4 .nibble .ensures) in
+    let w6 = wrote-more w5 (at3 .flag .ensures) in
+    let w7 = wrote-more w6 (at2 .flag2 .ensures) in
+    let w8 = wrote-more w7 (at1 .report .ensures) in
+    wrote-more w8 (at0 .put .ensures)
 
 pub answer-spec : {M : Type 1} → statement M
 answer-spec =

@@ -2,7 +2,7 @@ use mathlib.Core.Path.{_∙_}
 use native.Mathlib.Omega.{arith}
 use borrow.Author.Needs.{needs}
 use Rattle.texts.specs.Answers.{decimalText}
-use Rattle.texts.proofs.Writing.{wrote-more}
+use Rattle.texts.proofs.Writing.{wrote-more, wrote-room}
 use Rattle.texts.proofs.written.places.Statement.{statement}
 use Rattle.texts.proofs.written.places.Tie as tie
 
@@ -40,8 +40,14 @@ place-requires-9 c κs =
     let at5 = at4 .before .before .before .before in
     let at6 = at5 .before .before .before .before in
     let at7 = at6 .before .before .before .before in
-    let start = at7 .before .before .before in
-    (omega arith, omega (arith, start .pre, at0 .place8 .ensures .next, at0 .place8 .ensures .short, at1 .place7 .ensures .next, at1 .place7 .ensures .short, at2 .place6 .ensures .next, at2 .place6 .ensures .short, at3 .place5 .ensures .next, at3 .place5 .ensures .short, at4 .place4 .ensures .next, at4 .place4 .ensures .short, at5 .place3 .ensures .next, at5 .place3 .ensures .short, at6 .place2 .ensures .next, at6 .place2 .ensures .short, at7 .place .ensures .next, at7 .place .ensures .short, at0 .place8 .kept .0, at1 .place7 .kept .0, at2 .place6 .kept .0, at3 .place5 .kept .0, at4 .place4 .kept .0, at5 .place3 .kept .0, at6 .place2 .kept .0, at7 .place .kept .0))
+    let w2 = wrote-more (at7 .place .ensures) (at6 .place2 .ensures) in
+    let w3 = wrote-more w2 (at5 .place3 .ensures) in
+    let w4 = wrote-more w3 (at4 .place4 .ensures) in
+    let w5 = wrote-more w4 (at3 .place5 .ensures) in
+    let w6 = wrote-more w5 (at2 .place6 .ensures) in
+    let w7 = wrote-more w6 (at1 .place7 .ensures) in
+    let w8 = wrote-more w7 (at0 .place8 .ensures) in
+    (omega arith, wrote-room w8 (omega (arith, at7 .before .before .before .pre)))
 
 cast-put : tie.Need-cast-put
 cast-put c = search needs
@@ -60,8 +66,15 @@ put-requires c κs =
     let at6 = at5 .before .before .before .before in
     let at7 = at6 .before .before .before .before in
     let at8 = at7 .before .before .before .before in
-    let start = at8 .before .before .before in
-    omega (arith, start .pre, at0 .place9 .ensures .next, at0 .place9 .ensures .short, at1 .place8 .ensures .next, at1 .place8 .ensures .short, at2 .place7 .ensures .next, at2 .place7 .ensures .short, at3 .place6 .ensures .next, at3 .place6 .ensures .short, at4 .place5 .ensures .next, at4 .place5 .ensures .short, at5 .place4 .ensures .next, at5 .place4 .ensures .short, at6 .place3 .ensures .next, at6 .place3 .ensures .short, at7 .place2 .ensures .next, at7 .place2 .ensures .short, at8 .place .ensures .next, at8 .place .ensures .short, at0 .place9 .kept .0, at1 .place8 .kept .0, at2 .place7 .kept .0, at3 .place6 .kept .0, at4 .place5 .kept .0, at5 .place4 .kept .0, at6 .place3 .kept .0, at7 .place2 .kept .0, at8 .place .kept .0)
+    let w2 = wrote-more (at8 .place .ensures) (at7 .place2 .ensures) in
+    let w3 = wrote-more w2 (at6 .place3 .ensures) in
+    let w4 = wrote-more w3 (at5 .place4 .ensures) in
+    let w5 = wrote-more w4 (at4 .place5 .ensures) in
+    let w6 = wrote-more w5 (at3 .place6 .ensures) in
+    let w7 = wrote-more w6 (at2 .place7 .ensures) in
+    let w8 = wrote-more w7 (at1 .place8 .ensures) in
+    let w9 = wrote-more w8 (at0 .place9 .ensures) in
+    wrote-room w9 (omega (arith, at8 .before .before .before .pre))
 
 same-length : tie.Need-same-length
 same-length c =
@@ -75,7 +88,8 @@ same-length c =
     let at7 = at6 .before .before .before .before in
     let at8 = at7 .before .before .before .before in
     let at9 = at8 .before .before .before .before in
-    at0 .put .kept .0 ∙ at1 .place9 .kept .0 ∙ at2 .place8 .kept .0 ∙ at3 .place7 .kept .0 ∙ at4 .place6 .kept .0 ∙ at5 .place5 .kept .0 ∙ at6 .place4 .kept .0 ∙ at7 .place3 .kept .0 ∙ at8 .place2 .kept .0 ∙ at9 .place .kept .0
+    at0 .put .kept .0 ∙ at1 .place9 .kept .0 ∙ at2 .place8 .kept .0 ∙ at3 .place7 .kept .0 ∙ at4 .place6 .kept .0
+    ∙ at5 .place5 .kept .0 ∙ at6 .place4 .kept .0 ∙ at7 .place3 .kept .0 ∙ at8 .place2 .kept .0 ∙ at9 .place .kept .0
 
 returns : tie.Need-returns
 unfolding decimalText
@@ -90,7 +104,15 @@ returns c =
     let at7 = at6 .before .before .before .before in
     let at8 = at7 .before .before .before .before in
     let at9 = at8 .before .before .before .before in
-    wrote-more (wrote-more (wrote-more (wrote-more (wrote-more (wrote-more (wrote-more (wrote-more (wrote-more (at9 .place .ensures) (at8 .place2 .ensures)) (at7 .place3 .ensures)) (at6 .place4 .ensures)) (at5 .place5 .ensures)) (at4 .place6 .ensures)) (at3 .place7 .ensures)) (at2 .place8 .ensures)) (at1 .place9 .ensures)) (at0 .put .ensures)
+    let w2 = wrote-more (at9 .place .ensures) (at8 .place2 .ensures) in
+    let w3 = wrote-more w2 (at7 .place3 .ensures) in
+    let w4 = wrote-more w3 (at6 .place4 .ensures) in
+    let w5 = wrote-more w4 (at5 .place5 .ensures) in
+    let w6 = wrote-more w5 (at4 .place6 .ensures) in
+    let w7 = wrote-more w6 (at3 .place7 .ensures) in
+    let w8 = wrote-more w7 (at2 .place8 .ensures) in
+    let w9 = wrote-more w8 (at1 .place9 .ensures) in
+    wrote-more w9 (at0 .put .ensures)
 
 pub places-spec : {M : Type 1} → statement M
 places-spec =
