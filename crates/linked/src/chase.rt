@@ -237,7 +237,7 @@ fn by_rounds(f: Stage, x: Pair, k: u32) -> Pair
 }
 
 // How many leaps a run takes before it looks for rounds: one that is over by then pays for no anchor and compares nothing with it.
-const A_WHILE: u32 = 64;
+const A_WHILE: u32 = 16;
 
 // k timer clocks.
 pub(crate) fn run(f: Stage, x: Pair, k: u32) -> Pair

@@ -28,7 +28,7 @@ loop-holds c = (refl, omega arith)
 -- src/chase.rt:251:13
 leapt-requires : tie.Need-leapt-requires Inv-loop μ-loop
 leapt-requires c κs =
-    let s = c .before .loop in (ltb-true 0 (s .left) (left _ (ltb (s .leaps) 64) (c .loop-test .taken)), s .inv .1)
+    let s = c .before .loop in (ltb-true 0 (s .left) (left (ltb 0 (s .left)) _ (c .loop-test .taken)), s .inv .1)
 
 -- src/chase.rt:253:9
 sub-left : tie.Need-sub-left Inv-loop μ-loop
@@ -38,7 +38,7 @@ sub-left c = c .before .before .leapt .ensures .within
 add-leaps : tie.Need-add-leaps Inv-loop μ-loop
 add-leaps c =
     let s = c .before .before .before .before .loop in
-    omega (arith, ltb-true (s .leaps) 64 (right (ltb 0 (s .left)) _ (c .before .before .before .loop-test .taken)))
+    omega (arith, ltb-true (s .leaps) _ (right (ltb 0 (s .left)) _ (c .before .before .before .loop-test .taken)))
 
 -- src/chase.rt:250:5
 loop-less : tie.Need-loop-less Inv-loop μ-loop
