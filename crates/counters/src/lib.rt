@@ -2,6 +2,7 @@
 ghost use mathlib.Core.Path.{_≡_};
 ghost use Rattle.rules.specs.Counters.{continuous, countInput, triggerInput, gateInput, retrigger, square};
 ghost use Rattle.rules.specs.Counters.{takes, loaded, lessOne, terminalOf, countOf, outputOf, reachOf, clocks, clockedBy, pulseOf, turnOf, frozenBy, triggeredBy, commandedBy};
+ghost use Rattle.counters.specs.Rests.{restsBy};
 use rules::Counted;
 use rules::Counter;
 use rules::Link;
@@ -204,6 +205,14 @@ pub fn turn(
     ensures { λ r. ⌜ r ≡ turnOf version enabled (reachOf c k timer were are) c ⌝ }
 {
     turn_by(version, enabled, reach(c, k, timer, were, are), c)
+}
+
+// Whether a counter's turn leaves it as it is: no trigger that it takes, and no count.
+pub fn rests(enabled: bool, c: Counter, k: Link, timer: bool, were: u8, are: u8) -> bool
+    ensures { λ r. ⌜ r ≡ restsBy enabled (reachOf c k timer were are) c ⌝ }
+{
+    let h = reach(c, k, timer, were, are);
+    !(h.trigger & takes_trigger(enabled, c)) & !(enabled & c.gcb & h.gate & h.count)
 }
 
 fn freeze(v: bool, c: Counter) -> Counter

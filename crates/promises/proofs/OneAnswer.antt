@@ -17,6 +17,7 @@ use Rattle.bodies.specs.Taken.{statesAgree, recordIn, unusedClear}
 use Rattle.bodies.specs.Written.{bodiesOf, imageOf}
 use Rattle.chip.specs.Chips.{coreOf, eventChip, knownChip, ofZ8036, ofZ8536, soundChip}
 use Rattle.chip_image.specs.ChipImage.{lengthChip, restoredChip, saveCodeChip, savedChip}
+use Rattle.counters.specs.Rests.{restsBy}
 use Rattle.ctc_image.specs.Image.{restoredCtc, saveCodeCtc, savedCtc}
 use Rattle.ctc_image.specs.Layout.{imageCtc}
 use Rattle.ctc_lines.specs.Answers.{ctcText}
@@ -167,6 +168,7 @@ use Rattle.basics.proofs.word_at as basics·word-at
 use Rattle.basics.proofs.lay as basics·lay
 use Rattle.counters.proofs.output as counters·output
 use Rattle.counters.proofs.turn as counters·turn
+use Rattle.counters.proofs.rests as counters·rests
 use Rattle.counters.proofs.command as counters·command
 use Rattle.image.proofs.same_bytes as image·same-bytes
 use Rattle.image_in.proofs.device as image-in·device
@@ -600,6 +602,11 @@ module _ {M : Type 1} (𝓤 : URA M) where
       (λ κs a.
       turnOf (a .0) (a .1 .0)
       (reachOf (a .1 .1 .0) (a .1 .1 .1 .0) (a .1 .1 .1 .1 .0) (a .1 .1 .1 .1 .1 .0) (a .1 .1 .1 .1 .1 .1 .0)) (a .1 .1 .0)) refl
+
+  pub counters-rests : OneResult 𝓤 counters·rests.ended (counters·rests.clauses 𝓤)
+  counters-rests =
+      one-result 𝓤 counters·rests.ended (counters·rests.clauses 𝓤)
+      (λ κs a. restsBy (a .0) (reachOf (a .1 .0) (a .1 .1 .0) (a .1 .1 .1 .0) (a .1 .1 .1 .1 .0) (a .1 .1 .1 .1 .1 .0)) (a .1 .0)) refl
 
   pub counters-command : OneResult 𝓤 counters·command.ended (counters·command.clauses 𝓤)
   counters-command = one-result 𝓤 counters·command.ended (counters·command.clauses 𝓤) (λ κs a. commandedBy (a .0) (a .1 .0) (a .1 .1 .0)) refl

@@ -3,13 +3,15 @@ ghost use mathlib.Core.Path.{_≡_};
 ghost use Rattle.rules.specs.Step.{stepOf};
 ghost use mathlib.Core.Bool.{false};
 ghost use Rattle.levels.specs.Looks.{looksOf};
-ghost use Rattle.step.specs.Still.{sameCatchers, hasCaught, standsBy, linesStay, still};
+ghost use Rattle.step.specs.Still.{sameCatchers, hasCaught, standsBy, countersRest, still};
 use crate::catch_all;
 use crate::ct1_output;
+use crate::link;
 use crate::matches;
 use crate::step;
 use levels::Looks;
 use rules::Device;
+use rules::Link;
 use rules::Pattern;
 
 // Whether two records have the same catchers.
@@ -36,12 +38,29 @@ fn stands(q: Pattern, matches: bool) -> bool
     (matches == q.pmf) & !(matches & (priority | !q.pmf))
 }
 
-// Whether the counters' lines and CT1's output are what they were; w and n are the looks of the two records.
-fn lines_stay(d0: Device, d1: Device, w: Looks, n: Looks) -> bool
+// Whether no counter's turn does anything; w and n are the looks of the two records.
+fn counters_rest(d0: Device, d1: Device, w: Looks, n: Looks) -> bool
     requires { ⌜ (w ≡ looksOf d0) × (n ≡ looksOf d1) ⌝ }
-    ensures { λ r. ⌜ r ≡ linesStay d0 d1 ⌝ }
+    ensures { λ r. ⌜ r ≡ countersRest d0 d1 ⌝ }
 {
-    (w.b == n.b) & (w.c == n.c) & (ct1_output(d0.version, d0) == ct1_output(d1.version, d1))
+    let lc = d1.config % 4;
+    let k = link(lc, ct1_output(d0.version, d0), ct1_output(d1.version, d1));
+    // Where no line has moved and CT1's output has not risen, nothing comes to any of them.
+    if (w.b == n.b) & (w.c == n.c) & !k.count {
+        return true;
+    }
+    let unlinked = Link {
+        trigger: false,
+        gate: true,
+        only: false,
+        count: false,
+    };
+    let on1 = levels::counter_on(d1.config, 0);
+    let on2 = levels::counter_on(d1.config, 1);
+    let on3 = levels::counter_on(d1.config, 2);
+    counters::rests(on1, d1.counters[0], unlinked, false, w.b / 16, n.b / 16)
+        & counters::rests(on2, d1.counters[1], k, false, w.b % 16, n.b % 16)
+        & counters::rests(on3, d1.counters[2], unlinked, false, w.c % 16, n.c % 16)
 }
 
 // Whether nothing moves after (a).
@@ -52,11 +71,11 @@ fn is_still(d0: Device, d1: Device) -> bool
     let n = levels::look(d1);
     let a = d1.patterns[0];
     let b = d1.patterns[1];
-    let stays = lines_stay(d0, d1, w, n);
+    let rest = counters_rest(d0, d1, w, n);
     let has = has_caught(d1);
     let in_a = matches(levels::port_enabled(d1, 0), a, w.seen_a, n.seen_a);
     let in_b = matches(levels::port_enabled(d1, 1), b, w.seen_b, n.seen_b);
-    stays & has & (stands(a, in_a) & stands(b, in_b))
+    rest & has & (stands(a, in_a) & stands(b, in_b))
 }
 
 // The record after a step that is no timer clock, from the one before it and the one after (a).

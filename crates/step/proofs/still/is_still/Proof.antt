@@ -15,8 +15,8 @@ element-copy-out-a c = search needs
 element-copy-out-b : tie.Need-element-copy-out-b
 element-copy-out-b c = search needs
 
-lines-stay-requires : tie.Need-lines-stay-requires
-lines-stay-requires c κs = (c .before .before .before .look .ensures, c .before .before .look2 .ensures)
+counters-rest-requires : tie.Need-counters-rest-requires
+counters-rest-requires c κs = (c .before .before .before .look .ensures, c .before .before .look2 .ensures)
 
 has-caught-requires : tie.Need-has-caught-requires
 has-caught-requires c κs = search needs
@@ -46,8 +46,8 @@ returns c =
     let second = in-a .before in
     let first = second .before .before in
     let caught = first .before .before in
-    let stays = caught .before in
-    let after = stays .before .before .before in
+    let rest = caught .before in
+    let after = rest .before .before .before in
     simp (
       c .stands2 .ensures,
       in-a .stands .ensures,
@@ -56,7 +56,7 @@ returns c =
       first .matches .ensures,
       first .before .port-enabled .ensures,
       caught .has-caught .ensures,
-      stays .lines-stay .ensures,
+      rest .counters-rest .ensures,
       after .look2 .ensures,
       after .before .look .ensures,
     )
@@ -69,7 +69,7 @@ is-still-spec =
     look-requires-2
     element-copy-out-a
     element-copy-out-b
-    lines-stay-requires
+    counters-rest-requires
     has-caught-requires
     port-enabled-requires
     matches-requires
