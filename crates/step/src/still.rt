@@ -4,6 +4,7 @@ ghost use Rattle.rules.specs.Step.{stepOf};
 ghost use mathlib.Core.Bool.{false};
 ghost use Rattle.levels.specs.Looks.{looksOf};
 ghost use Rattle.step.specs.Still.{sameCatchers, hasCaught, standsBy, countersRest, still};
+use crate::UNLINKED;
 use crate::catch_all;
 use crate::ct1_output;
 use crate::link;
@@ -11,7 +12,6 @@ use crate::matches;
 use crate::step;
 use levels::Looks;
 use rules::Device;
-use rules::Link;
 use rules::Pattern;
 
 // Whether two records have the same catchers.
@@ -49,18 +49,12 @@ fn counters_rest(d0: Device, d1: Device, w: Looks, n: Looks) -> bool
     if (w.b == n.b) & (w.c == n.c) & !k.count {
         return true;
     }
-    let unlinked = Link {
-        trigger: false,
-        gate: true,
-        only: false,
-        count: false,
-    };
     let on1 = levels::counter_on(d1.config, 0);
     let on2 = levels::counter_on(d1.config, 1);
     let on3 = levels::counter_on(d1.config, 2);
-    counters::rests(on1, d1.counters[0], unlinked, false, w.b / 16, n.b / 16)
+    counters::rests(on1, d1.counters[0], UNLINKED, false, w.b / 16, n.b / 16)
         & counters::rests(on2, d1.counters[1], k, false, w.b % 16, n.b % 16)
-        & counters::rests(on3, d1.counters[2], unlinked, false, w.c % 16, n.c % 16)
+        & counters::rests(on3, d1.counters[2], UNLINKED, false, w.c % 16, n.c % 16)
 }
 
 // Whether nothing moves after (a).
