@@ -21,30 +21,44 @@ use Rattle.bench_lines.specs.Places.{holdsUpTo}
 use Rattle.bench_lines.specs.Fields.{fieldsFrom, fieldsOf, fieldAt, hole, unmeasured, illegible, isHole, decimalIn, pairIn, nibbleIn, numberAt, saysAt}
 use Rattle.bench_lines.specs.Compared.{fieldCount, answerNumbers, readableAt, readableLine, differsAt, notRead, comparedOf}
 
--- ---- fields without a space
--- no byte is a space
-unfoldable noSpace : List ℕ → Bool
-noSpace [] = true
-noSpace (b ∷ v) = not (b == space) && noSpace v
+-- ---- fields of digits
+-- each byte is a hexadecimal digit
+unfoldable pub hexDigits : List ℕ → Bool
+hexDigits [] = true
+hexDigits (b ∷ v) = ltb (digitOf b) 16 && hexDigits v
 
--- a digit is none
-space-no-digit : digitOf space < 16 → ⊥
+-- no byte is x
+unfoldable pub free : ℕ → List ℕ → Bool
+free x [] = true
+free x (b ∷ v) = not (b == x) && free x v
+
+-- a space is no digit, and a line feed is none
+pub space-no-digit : digitOf space < 16 → ⊥
 unfolding digitOf
 space-no-digit z = omega arith
 
-digit-no-space : (b : ℕ) → digitOf b < 16 → (b == space) ≡ false
-digit-no-space b h = ne-eqb b space (λ e. space-no-digit (rw e at h))
+pub feed-no-digit : digitOf lineFeed < 16 → ⊥
+unfolding digitOf
+feed-no-digit z = omega arith
 
-glyph-no-space : (n : ℕ) → (glyphOf n == space) ≡ false
-glyph-no-space n = digit-no-space (glyphOf n) (simp digit-back (mod-lt n (lit< tt)))
+pub digits-free : (x : ℕ) (v : List ℕ) → (digitOf x < 16 → ⊥) → hexDigits v ≡ true → free x v ≡ true
+unfolding hexDigits free
+digits-free x [] n h = refl
+digits-free x (b ∷ v) n h =
+    let t = both (ltb (digitOf b) 16) (hexDigits v) h in
+    let l : digitOf b < 16 = ltb-true (digitOf b) 16 (t .0) in
+    simp (ne-eqb b x (λ e. n (rw e at l)), digits-free x v n (t .1))
 
-decimal-no-space : (v : List ℕ) → allDecimal v ≡ true → noSpace v ≡ true
-unfolding allDecimal noSpace
-decimal-no-space [] h = refl
-decimal-no-space (b ∷ v) h =
+glyph-digit : (n : ℕ) → ltb (digitOf (glyphOf n)) 16 ≡ true
+glyph-digit n = lt-ltb (digitOf (glyphOf n)) 16 (simp digit-back (mod-lt n (lit< tt)))
+
+decimal-digits : (v : List ℕ) → allDecimal v ≡ true → hexDigits v ≡ true
+unfolding allDecimal hexDigits
+decimal-digits [] h = refl
+decimal-digits (b ∷ v) h =
     let t = both (ltb (digitOf b) 10) (allDecimal v) h in
     let l : digitOf b < 10 = ltb-true (digitOf b) 10 (t .0) in
-    simp (digit-no-space b (omega arith), decimal-no-space v (t .1))
+    simp (lt-ltb (digitOf b) 16 (omega arith), decimal-digits v (t .1))
 
 digits-of : (v : List ℕ) (n : ℕ) → n < 4294967296 → clocksIn v ≡ n → allDecimal v ≡ true
 unfolding clocksIn
@@ -54,8 +68,8 @@ digits-of v n h e = by-digits (allDecimal v) refl e
     by-digits true g f = refl
     by-digits false g f = absurd (omega arith)
 
-number-no-space : (n : ℕ) → n < 4294967296 → noSpace (decimalText n) ≡ true
-number-no-space n h = decimal-no-space (decimalText n) (digits-of (decimalText n) n h (clocks-back n h))
+number-digits : (n : ℕ) → n < 4294967296 → hexDigits (decimalText n) ≡ true
+number-digits n h = decimal-digits (decimalText n) (digits-of (decimalText n) n h (clocks-back n h))
 
 -- ---- a line made of fields
 unfoldable joined : List (List ℕ) → List ℕ
@@ -63,33 +77,33 @@ joined [] = []
 joined (f ∷ []) = f
 joined (f ∷ g ∷ gs) = f ++ (space ∷ joined (g ∷ gs))
 
-field-ends : (f v rest : List ℕ) → noSpace v ≡ true → fieldsFrom f (v ++ (space ∷ rest)) ≡ (f ++ v) ∷ fieldsFrom [] rest
-unfolding fieldsFrom noSpace
+pub field-ends : (f v rest : List ℕ) → free space v ≡ true → fieldsFrom f (v ++ (space ∷ rest)) ≡ (f ++ v) ∷ fieldsFrom [] rest
+unfolding fieldsFrom free
 field-ends f [] rest h = simp append-nil
 field-ends f (b ∷ v) rest h =
-    let t = both (not (b == space)) (noSpace v) h in
+    let t = both (not (b == space)) (free space v) h in
     simp (not-so (b == space) (t .0)) (field-ends (f ++ (b ∷ [])) v rest (t .1) ∙ (simp append-assoc))
 
-line-ends : (f v : List ℕ) → noSpace v ≡ true → fieldsFrom f v ≡ (f ++ v) ∷ []
-unfolding fieldsFrom noSpace
+pub line-ends : (f v : List ℕ) → free space v ≡ true → fieldsFrom f v ≡ (f ++ v) ∷ []
+unfolding fieldsFrom free
 line-ends f [] h = simp append-nil
 line-ends f (b ∷ v) h =
-    let t = both (not (b == space)) (noSpace v) h in
+    let t = both (not (b == space)) (free space v) h in
     simp (not-so (b == space) (t .0)) (line-ends (f ++ (b ∷ [])) v (t .1) ∙ (simp append-assoc))
 
 -- ---- fields that say numbers, from place i on
-data Says : ℕ → List (List ℕ) → List ℕ → Type 0 where
+pub data Says : ℕ → List (List ℕ) → List ℕ → Type 0 where
   none : {i : ℕ} → Says i [] []
-  one : {i n : ℕ} {f : List ℕ} {fs : List (List ℕ)} {ns : List ℕ} → saysAt i f ≡ n → n < unmeasured → noSpace f ≡ true → Says (suc i) fs ns
+  one : {i n : ℕ} {f : List ℕ} {fs : List (List ℕ)} {ns : List ℕ} → saysAt i f ≡ n → n < unmeasured → hexDigits f ≡ true → Says (suc i) fs ns
       → Says i (f ∷ fs) (n ∷ ns)
 
 -- cut at the spaces, they are these fields
 fields-back : {i : ℕ} {ns : List ℕ} (f : List ℕ) (fs : List (List ℕ)) → Says i (f ∷ fs) ns → fieldsFrom [] (joined (f ∷ fs)) ≡ f ∷ fs
 unfolding joined
-fields-back f [] (one e l h r) = line-ends [] f h
-fields-back f (g ∷ gs) (one e l h r) = field-ends [] f (joined (g ∷ gs)) h ∙ ap (λ (x : List (List ℕ)). f ∷ x) (fields-back g gs r)
+fields-back f [] (one e l h r) = line-ends [] f (digits-free space f space-no-digit h)
+fields-back f (g ∷ gs) (one e l h r) = field-ends [] f (joined (g ∷ gs)) (digits-free space f space-no-digit h) ∙ ap (λ (x : List (List ℕ)). f ∷ x) (fields-back g gs r)
 
-at-place : (i j : ℕ) (f : List ℕ) → i ≡ j → saysAt i f ≡ saysAt j f
+pub at-place : (i j : ℕ) (f : List ℕ) → i ≡ j → saysAt i f ≡ saysAt j f
 at-place i j f e = ap (λ (k : ℕ). saysAt k f) e
 
 says-at : {i : ℕ} {fs : List (List ℕ)} {ns : List ℕ} → Says i fs ns → (k : ℕ) → k < length fs
@@ -143,7 +157,7 @@ nibble-says : (n : ℕ) → nibbleIn (glyphOf n ∷ []) ≡ n % 16
 unfolding nibbleIn
 nibble-says n = simp (digit-back, lt-ltb (n % 16) 16 (omega arith))
 
-abbrev bitText : Bool → List ℕ
+abbrev pub bitText : Bool → List ℕ
 bitText f = (if f then code "1" else code "0") ∷ []
 
 bit-says : (f : Bool) → decimalIn 1 (bitText f) ≡ num f
@@ -155,18 +169,18 @@ bit-small : (f : Bool) → num f < unmeasured
 bit-small true = omega arith
 bit-small false = omega arith
 
-bit-no-space : (f : Bool) → noSpace (bitText f) ≡ true
-unfolding noSpace
-bit-no-space true = refl
-bit-no-space false = refl
+bit-digits : (f : Bool) → hexDigits (bitText f) ≡ true
+unfolding hexDigits digitOf
+bit-digits true = refl
+bit-digits false = refl
 
-pair-no-space : (n : ℕ) → noSpace (glyphOf (n / 16) ∷ glyphOf n ∷ []) ≡ true
-unfolding noSpace
-pair-no-space n = simp (glyph-no-space (n / 16), glyph-no-space n)
+pair-digits : (n : ℕ) → hexDigits (glyphOf (n / 16) ∷ glyphOf n ∷ []) ≡ true
+unfolding hexDigits
+pair-digits n = simp (glyph-digit (n / 16), glyph-digit n)
 
-nibble-no-space : (n : ℕ) → noSpace (glyphOf n ∷ []) ≡ true
-unfolding noSpace
-nibble-no-space n = simp (glyph-no-space n)
+nibble-digits : (n : ℕ) → hexDigits (glyphOf n ∷ []) ≡ true
+unfolding hexDigits
+nibble-digits n = simp (glyph-digit n)
 
 -- ---- an answer
 -- the numbers that the struct of an answer can hold
@@ -179,7 +193,7 @@ pub record Ranged (a : Answer) : Type 0 where
   pub lost : (k : ℕ) → getD (a .report .lost) k 0 < unmeasured
 
 -- its fields
-abbrev textsOf : Answer → List (List ℕ)
+abbrev pub textsOf : Answer → List (List ℕ)
 textsOf a =
     decimalText (a .code) ∷ (glyphOf (a .value / 16) ∷ glyphOf (a .value) ∷ []) ∷ (glyphOf (a .a / 16) ∷ glyphOf (a .a) ∷ [])
     ∷ (glyphOf (a .b / 16) ∷ glyphOf (a .b) ∷ []) ∷ (glyphOf (a .c) ∷ []) ∷ bitText (a .int) ∷ bitText (a .ieo)
@@ -222,17 +236,17 @@ decimal-field : (i most n : ℕ) → n ≤ most → most < unmeasured → ((f : 
 decimal-field i most n h g e = says-number i n (decimalText n) (omega arith) (e (decimalText n) ∙ decimal-says most n h g)
 
 -- ---- thirteen places
-holds-all : (n : ℕ) (f : ℕ → Bool) → ((k : ℕ) → k < n → f k ≡ true) → holdsUpTo n f ≡ true
+pub holds-all : (n : ℕ) (f : ℕ → Bool) → ((k : ℕ) → k < n → f k ≡ true) → holdsUpTo n f ≡ true
 unfolding holdsUpTo
 holds-all zero f h = refl
 holds-all (suc n) f h = simp (holds-all n f (λ k l. h k (omega arith)), h n (omega arith))
 
-from-start : (w : List ℕ) → 0 < length w → fieldsOf w ≡ fieldsFrom [] w
+pub from-start : (w : List ℕ) → 0 < length w → fieldsOf w ≡ fieldsFrom [] w
 unfolding fieldsOf
 from-start [] h = absurd (omega arith)
 from-start (b ∷ w) h = refl
 
-same-number : (a b : Bool) → b ≡ true → not (a && not b) ≡ true
+pub same-number : (a b : Bool) → b ≡ true → not (a && not b) ≡ true
 same-number a b e = simp e (by-first a)
   where
     by-first : (c : Bool) → not (c && false) ≡ true
@@ -243,7 +257,7 @@ module _ (a : Answer) (r : Ranged a) where
   counted : (i n : ℕ) → n < unmeasured → ((f : List ℕ) → numberAt i f ≡ decimalIn 4294967295 f) → saysAt i (decimalText n) ≡ n
   counted i n h e = decimal-field i 4294967295 n (omega arith) (omega arith) e
 
-  own-says : Says 0 (textsOf a) (answerNumbers a)
+  pub own-says : Says 0 (textsOf a) (answerNumbers a)
   unfolding numberAt
   own-says =
       let t = r .terminals in
@@ -253,19 +267,19 @@ module _ (a : Answer) (r : Ranged a) where
       let p : a .a < unmeasured = omega (arith, r .pins-a) in
       let q : a .b < unmeasured = omega (arith, r .pins-b) in
       let m : a .c % 16 < unmeasured = omega arith in
-      one (decimal-field 0 255 (a .code) (omega (arith, r .code)) (omega arith) (λ f. refl)) c (number-no-space _ c)
-      (one (says-number 1 _ _ v (pair-says _ (r .value))) v (pair-no-space (a .value))
-      (one (says-number 2 _ _ p (pair-says _ (r .pins-a))) p (pair-no-space (a .a))
-      (one (says-number 3 _ _ q (pair-says _ (r .pins-b))) q (pair-no-space (a .b))
-      (one (says-number 4 _ _ m (nibble-says (a .c))) m (nibble-no-space (a .c))
-      (one (says-number 5 _ _ (bit-small (a .int)) (bit-says (a .int))) (bit-small (a .int)) (bit-no-space (a .int))
-      (one (says-number 6 _ _ (bit-small (a .ieo)) (bit-says (a .ieo))) (bit-small (a .ieo)) (bit-no-space (a .ieo))
-      (one (counted 7 _ (t 0) (λ f. refl)) (t 0) (number-no-space _ (t 0))
-      (one (counted 8 _ (t 1) (λ f. refl)) (t 1) (number-no-space _ (t 1))
-      (one (counted 9 _ (t 2) (λ f. refl)) (t 2) (number-no-space _ (t 2))
-      (one (counted 10 _ (l 0) (λ f. refl)) (l 0) (number-no-space _ (l 0))
-      (one (counted 11 _ (l 1) (λ f. refl)) (l 1) (number-no-space _ (l 1))
-      (one (counted 12 _ (l 2) (λ f. refl)) (l 2) (number-no-space _ (l 2)) none))))))))))))
+      one (decimal-field 0 255 (a .code) (omega (arith, r .code)) (omega arith) (λ f. refl)) c (number-digits _ c)
+      (one (says-number 1 _ _ v (pair-says _ (r .value))) v (pair-digits (a .value))
+      (one (says-number 2 _ _ p (pair-says _ (r .pins-a))) p (pair-digits (a .a))
+      (one (says-number 3 _ _ q (pair-says _ (r .pins-b))) q (pair-digits (a .b))
+      (one (says-number 4 _ _ m (nibble-says (a .c))) m (nibble-digits (a .c))
+      (one (says-number 5 _ _ (bit-small (a .int)) (bit-says (a .int))) (bit-small (a .int)) (bit-digits (a .int))
+      (one (says-number 6 _ _ (bit-small (a .ieo)) (bit-says (a .ieo))) (bit-small (a .ieo)) (bit-digits (a .ieo))
+      (one (counted 7 _ (t 0) (λ f. refl)) (t 0) (number-digits _ (t 0))
+      (one (counted 8 _ (t 1) (λ f. refl)) (t 1) (number-digits _ (t 1))
+      (one (counted 9 _ (t 2) (λ f. refl)) (t 2) (number-digits _ (t 2))
+      (one (counted 10 _ (l 0) (λ f. refl)) (l 0) (number-digits _ (l 0))
+      (one (counted 11 _ (l 1) (λ f. refl)) (l 1) (number-digits _ (l 1))
+      (one (counted 12 _ (l 2) (λ f. refl)) (l 2) (number-digits _ (l 2)) none))))))))))))
 
   -- the fields of its line
   own-fields : fieldsOf (printed a) ≡ textsOf a

@@ -1,8 +1,10 @@
 // The bench: an answer of the board, as a line has it, beside the model's.
+mod agreed;
 mod comparing;
 mod fields;
 mod names;
 
+pub use agreed::agreed_to;
 pub use comparing::compare;
 pub use comparing::compare_kept;
 pub use names::field_name;

@@ -11,6 +11,7 @@ use mathlib.Core.Path.{refl}
 use Rattle.basics.specs.Buffer.{fits, laidOf}
 use Rattle.basics.specs.Byte.{byteIn, byteOf, withByte}
 use Rattle.basics.specs.Iterate.{iterate}
+use Rattle.bench_lines.specs.Agreed.{agreedTo}
 use Rattle.bench_lines.specs.Compared.{comparedKept, comparedOf}
 use Rattle.bench_lines.specs.Names.{nameOf}
 use Rattle.bodies.specs.Taken.{statesAgree, recordIn, unusedClear}
@@ -196,6 +197,7 @@ use Rattle.levels.proofs.path_at as levels·path-at
 use Rattle.levels.proofs.seen_at as levels·seen-at
 use Rattle.levels.proofs.look as levels·look
 use Rattle.levels.proofs.data_at as levels·data-at
+use Rattle.bench_lines.proofs.agreed_to as bench-lines·agreed-to
 use Rattle.bench_lines.proofs.compare as bench-lines·compare
 use Rattle.bench_lines.proofs.compare_kept as bench-lines·compare-kept
 use Rattle.bench_lines.proofs.field_name as bench-lines·field-name
@@ -696,6 +698,10 @@ module _ {M : Type 1} (𝓤 : URA M) where
 
   pub levels-data-at : OneResult 𝓤 levels·data-at.ended (levels·data-at.clauses 𝓤)
   levels-data-at = one-result 𝓤 levels·data-at.ended (levels·data-at.clauses 𝓤) (λ κs a. dataAt (a .0) (a .1 .0)) refl
+
+  pub bench-lines-agreed-to : OneResult 𝓤 bench-lines·agreed-to.ended (bench-lines·agreed-to.clauses 𝓤)
+  bench-lines-agreed-to =
+      one-result 𝓤 bench-lines·agreed-to.ended (bench-lines·agreed-to.clauses 𝓤) (λ κs a. agreedTo (a .0) (now (a .1 .0)) (a .1 .1 .0)) refl
 
   pub bench-lines-compare : OneResult 𝓤 bench-lines·compare.ended (bench-lines·compare.clauses 𝓤)
   bench-lines-compare =
