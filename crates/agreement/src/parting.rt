@@ -1,12 +1,16 @@
 // Where a board and the model part.
 ghost use mathlib.Core.Path.{_≡_};
 ghost use mathlib.Core.Bool.{true};
+ghost use Rattle.rules.specs.Record.{Shaped};
 ghost use Rattle.chip.specs.Chips.{soundChip};
-ghost use Rattle.agreement.specs.Turns.{besideOf};
+ghost use Prim.Native.Nat.{_≤_};
+ghost use lib.ListN.{length};
+ghost use Rattle.agreement.specs.Turns.{besideOf, onwardOf};
 use crate::Turn;
 use bench_lines::FIELDS;
 use chip::Chip;
 use console::print;
+use input::Reader;
 use texts::ROOM;
 use texts::Text;
 
@@ -33,6 +37,63 @@ fn beside(sound: bool, d: Chip, event: Text, board: Text) -> Turn
         model: a,
         compared: c,
     }
+}
+
+// Where two files have come to side by side: the device, the places in what was read of them, and how many lines agree.
+pub(crate) struct Abreast {
+    pub device: Chip,
+    pub event: usize,
+    pub board: usize,
+    pub agreed: u64,
+}
+
+// One line more of both, read where they stand; the same, if one of them does not end there, or they do not agree.
+fn onward(sound: bool, a: Abreast, read: &[u8], measured: &[u8]) -> Abreast
+    requires { ⌜ (sound ≡ true → soundChip (a .device) ≡ true) ⌝ }
+    ensures { λ r. ⌜ r ≡ onwardOf a (now (read .entry)) (now (measured .entry)) ⌝ }
+{
+    let i = a.event;
+    let e = lines::line_end(read, i);
+    if (e < read.len()) & (a.agreed < u64::MAX) {
+        let o = chip::known(sound, a.device, lines::event_of(&read[i..e]));
+        let d = o.device;
+        let m = o.answer;
+        let next = bench_lines::agreed_to(m, measured, a.board);
+        if next != a.board {
+            return Abreast {
+                device: d,
+                event: e + 1,
+                board: next,
+                agreed: a.agreed + 1,
+            };
+        }
+    }
+    a
+}
+
+// All lines that agree and end in what was read of both.
+fn onward_all(sound: bool, start: Abreast, read: &[u8], measured: &[u8]) -> Abreast
+    requires { ⌜ (sound ≡ true → soundChip (start .device) ≡ true) ⌝ }
+    ensures { λ r. ⌜ (sound ≡ true → Shaped (r .device .device .core) × (soundChip (r .device) ≡ true)) × (start .agreed ≤ r .agreed) ⌝ }
+{
+    let mut a = start;
+    let mut going = true;
+    while going {
+        let b = onward(sound, a, read, measured);
+        going = b.agreed != a.agreed;
+        a = b;
+    }
+    a
+}
+
+// Up to where lines may be read as they stand in a buffer: nowhere, if one has begun before it.
+fn ready(r: Reader, buf: &[u8]) -> usize
+    ensures { λ n. ⌜ n ≤ length (now (buf .entry)) ⌝ }
+{
+    if (r.text.len == 0) & (r.end <= buf.len()) {
+        return r.end;
+    }
+    0
 }
 
 // A label as `show` has them, and a line as it stands in its file.
@@ -118,8 +179,20 @@ pub(crate) fn part(d: Chip, events: i32, answers: i32, out: i32) -> Stop {
                 readable: c.readable,
             };
         }
-        device = t.device;
-        agreed += 1;
+        let i = ready(r, &read);
+        let j = ready(s, &measured);
+        let after = t.device;
+        let start = Abreast {
+            device: after,
+            event: r.at,
+            board: s.at,
+            agreed: agreed + 1,
+        };
+        let a = onward_all(sound, start, &read[..i], &measured[..j]);
+        device = a.device;
+        r.at = a.event;
+        s.at = a.board;
+        agreed = a.agreed;
     }
     Stop {
         agreed,

@@ -3,6 +3,8 @@ use mathlib.Core.Path.{_≡_, sym, ap, subst, _∙_}
 use mathlib.Core.Bool.{true}
 use native.Mathlib.Omega.{arith}
 use lib.ListN.{length}
+use lib.Seq.{length-take-le}
+use Rattle.chip.specs.Chips.{soundChip}
 use Rattle.rules.specs.Record.{Shaped}
 use Rattle.basics.proofs.Lists.{length-mapped as of-map}
 use Rattle.chip.proofs.Kept.{Good, event-good}
@@ -63,8 +65,8 @@ slice-aggregate-next-line-2 c = c .before .before .before .before .before .loop 
 next-line-requires-2 : tie.Need-next-line-requires-2 Inv-loop μ-loop
 next-line-requires-2 c κs = tt
 
-add-t23 : tie.Need-add-t23 Inv-loop μ-loop
-add-t23 c = omega (arith, c .before .before .before .before .before .before .before .before .before .before .before .loop-test .taken)
+add-t28 : tie.Need-add-t28 Inv-loop μ-loop
+add-t28 c = omega (arith, c .before .before .before .before .before .before .before .before .before .before .before .loop-test .taken)
 
 returns : tie.Need-returns Inv-loop μ-loop
 returns c = tt
@@ -78,29 +80,65 @@ add-print-parted c = omega (arith, c .before .before .before .before .before .be
 print-parted-requires : tie.Need-print-parted-requires Inv-loop μ-loop
 print-parted-requires c κs = tt
 
-add-t25 : tie.Need-add-t25 Inv-loop μ-loop
-add-t25 c = omega (arith, c .before .before .before .before .before .before .before .before .before .before .before .before .before .before .before .before .loop-test .taken)
+add-t30 : tie.Need-add-t30 Inv-loop μ-loop
+add-t30 c = omega (arith, c .before .before .before .before .before .before .before .before .before .before .before .before .before .before .before .before .loop-test .taken)
 
 returns-2 : tie.Need-returns-2 Inv-loop μ-loop
 returns-2 c = tt
 
-add-agreed : tie.Need-add-agreed Inv-loop μ-loop
-add-agreed c = omega (arith, c .before .before .before .before .before .before .before .before .before .before .before .before .before .before .before .before .loop-test .taken)
+slice-aggregate-ready : tie.Need-slice-aggregate-ready Inv-loop μ-loop
+slice-aggregate-ready c =
+    let at-first = c .before .before .before .before .before .before .before .before .before .before .before .before .before .before in
+    at-first .before .before .before .loop .inv .0 ∙ sym (at-first .next-line .kept .1 .1 .0)
+
+ready-requires : tie.Need-ready-requires Inv-loop μ-loop
+ready-requires c κs = tt
+
+slice-aggregate-ready-2 : tie.Need-slice-aggregate-ready-2 Inv-loop μ-loop
+slice-aggregate-ready-2 c =
+    let at-second = c .before .before .before .before .before .before .before .before .before .before .before .before .before in
+    at-second .before .before .before .before .before .before .loop .inv .1 ∙ sym (at-second .next-line2 .kept .1 .1 .0)
+
+ready-requires-2 : tie.Need-ready-requires-2 Inv-loop μ-loop
+ready-requires-2 c κs = tt
+
+add-t35 : tie.Need-add-t35 Inv-loop μ-loop
+add-t35 c =
+    let at-beside = c .before .before .before .before .before .before .before .before in
+    omega (arith, at-beside .before .before .before .before .before .before .before .before .before .before .before .before .loop-test .taken)
+
+array-share-prefix-read : tie.Need-array-share-prefix-read Inv-loop μ-loop
+array-share-prefix-read c = c .before .before .before .ready .ensures
+
+slice-aggregate-onward-all : tie.Need-slice-aggregate-onward-all Inv-loop μ-loop
+slice-aggregate-onward-all c = sym (length-take-le _ _ (c .before .before .before .before .ready .ensures))
+
+array-share-prefix-measured : tie.Need-array-share-prefix-measured Inv-loop μ-loop
+array-share-prefix-measured c = c .before .before .ready2 .ensures
+
+slice-aggregate-onward-all-2 : tie.Need-slice-aggregate-onward-all-2 Inv-loop μ-loop
+slice-aggregate-onward-all-2 c = sym (length-take-le _ _ (c .before .before .before .ready2 .ensures))
+
+onward-all-requires : tie.Need-onward-all-requires Inv-loop μ-loop
+unfolding besideOf
+onward-all-requires c κs =
+    let at-beside = c .before .before .before .before .before .before .before .before .before .before in
+    let kept = at-beside .before .before .before .before .before .before .before .before .before .before .before .before .before .loop .inv in
+    λ h. subst (λ (t : Turn). soundChip (t .device) ≡ true) (sym (at-beside .beside .ensures)) (event-good _ _ (kept .2 h) .1)
 
 loop-less : tie.Need-loop-less Inv-loop μ-loop
-loop-less c = omega (arith, c .before .before .before .before .before .before .before .before .before .before .before .before .before .before .before .before .loop-test .taken)
+loop-less c =
+    let all = c .before in
+    let at-beside = all .before .before .before .before .before .before .before .before .before .before .before in
+    omega (arith, all .onward-all .ensures .1, at-beside .before .before .before .before .before .before .before .before .before .before .before .before .loop-test .taken)
 
 loop-again : tie.Need-loop-again Inv-loop μ-loop
-unfolding besideOf
 loop-again c =
-    let at-second = c .before .before .before .before .before .before .before .before .before .before .before in
+    let all = c .before in
+    let at-second = all .before .before .before .before .before .before .before .before .before .before .before .before .before .before .before .before .before .before in
     let at-first = at-second .before .before .before in
     let kept = at-first .before .before .before .loop .inv in
-    let told = c .before .before .before .before .beside .ensures in (
-      kept .0 ∙ sym (at-first .next-line .kept .1 .1 .0),
-      kept .1 ∙ sym (at-second .next-line2 .kept .1 .1 .0),
-      λ h. subst Good (sym (ap (λ (t : Turn). t .device) told)) (event-good _ _ (kept .2 h)),
-    )
+    (kept .0 ∙ sym (at-first .next-line .kept .1 .1 .0), kept .1 ∙ sym (at-second .next-line2 .kept .1 .1 .0), all .onward-all .ensures .0)
 
 returns-3 : tie.Need-returns-3 Inv-loop μ-loop
 returns-3 c = tt
@@ -121,14 +159,23 @@ part-spec =
     next-line-requires
     slice-aggregate-next-line-2
     next-line-requires-2
-    add-t23
+    add-t28
     returns
     beside-requires
     add-print-parted
     print-parted-requires
-    add-t25
+    add-t30
     returns-2
-    add-agreed
+    slice-aggregate-ready
+    ready-requires
+    slice-aggregate-ready-2
+    ready-requires-2
+    add-t35
+    array-share-prefix-read
+    slice-aggregate-onward-all
+    array-share-prefix-measured
+    slice-aggregate-onward-all-2
+    onward-all-requires
     loop-less
     loop-again
     returns-3)
