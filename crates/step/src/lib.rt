@@ -11,8 +11,10 @@ ghost use Rattle.rules.specs.PortData.{caughtOf};
 ghost use Rattle.rules.specs.Patterns.{matchOf};
 ghost use Rattle.rules.specs.Interrupts.{came, wasLost};
 ghost use Rattle.rules.specs.Step.{linesAt, catchers, caughtAt, stepOf};
+ghost use Rattle.levels.specs.Looks.{looksOf};
 ghost use Rattle.theorems.specs.Alone.{leftBy};
 ghost use Rattle.step.specs.Parts.{turnBy, turnAt, patternBy, patternAfter};
+use levels::Looks;
 use rules::Counter;
 use rules::Device;
 use rules::Fate;
@@ -227,12 +229,11 @@ fn pattern_turn(p: usize, before: u8, after: u8, d: Device) -> Side
     side_of(levels::port_on(d.config, p), q, before, after, s)
 }
 
-// One step, from the record before it and the one after (a): w was seen before, n is seen after (a) and s after (e).
-pub fn step(timer: bool, d0: Device, d1: Device) -> Stepped
+// One step, from the record after (a) and the one before: n is seen after (a), w was seen before, and s is seen after (e).
+fn step_by(timer: bool, d1: Device, n: Looks, d0: Device, w: Looks) -> Stepped
+    requires { ⌜ (w ≡ looksOf d0) × (n ≡ looksOf d1) ⌝ }
     ensures { λ r. ⌜ r ≡ stepOf timer d0 d1 ⌝ }
 {
-    let w = levels::look(d0);
-    let n = levels::look(d1);
     let one = counter_turn(UNLINKED, timer, w.b / 16, n.b / 16, 0, d1);
     let c1 = one.counter;
     let s1 = one.source;
@@ -261,4 +262,13 @@ pub fn step(timer: bool, d0: Device, d1: Device) -> Stepped
         terminals: [one.came, two.came, three.came],
         lost: [one.lost, two.lost, three.lost],
     }
+}
+
+// One step.
+pub fn step(timer: bool, d0: Device, d1: Device) -> Stepped
+    ensures { λ r. ⌜ r ≡ stepOf timer d0 d1 ⌝ }
+{
+    let w = levels::look(d0);
+    let n = levels::look(d1);
+    step_by(timer, d1, n, d0, w)
 }

@@ -9,7 +9,7 @@ use crate::catch_all;
 use crate::ct1_output;
 use crate::link;
 use crate::matches;
-use crate::step;
+use crate::step_by;
 use levels::Looks;
 use rules::Device;
 use rules::Pattern;
@@ -58,11 +58,10 @@ fn counters_rest(d0: Device, d1: Device, w: Looks, n: Looks) -> bool
 }
 
 // Whether nothing moves after (a).
-fn is_still(d0: Device, d1: Device) -> bool
+fn is_still(d0: Device, d1: Device, w: Looks, n: Looks) -> bool
+    requires { ⌜ (w ≡ looksOf d0) × (n ≡ looksOf d1) ⌝ }
     ensures { λ r. ⌜ r ≡ still d0 d1 ⌝ }
 {
-    let w = levels::look(d0);
-    let n = levels::look(d1);
     let a = d1.patterns[0];
     let b = d1.patterns[1];
     let rest = counters_rest(d0, d1, w, n);
@@ -76,9 +75,11 @@ fn is_still(d0: Device, d1: Device) -> bool
 pub fn untimed(d0: Device, d1: Device) -> Device
     ensures { λ r. ⌜ r ≡ stepOf false d0 d1 .device ⌝ }
 {
-    if is_still(d0, d1) {
+    let w = levels::look(d0);
+    let n = levels::look(d1);
+    if is_still(d0, d1, w, n) {
         return d1;
     }
-    let s = step(false, d0, d1);
+    let s = step_by(false, d1, n, d0, w);
     s.device
 }

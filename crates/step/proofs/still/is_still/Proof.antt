@@ -3,12 +3,6 @@ use borrow.Author.Needs.{needs}
 use Rattle.step.proofs.still.is_still.Statement.{statement}
 use Rattle.step.proofs.still.is_still.Tie as tie
 
-look-requires : tie.Need-look-requires
-look-requires c κs = search needs
-
-look-requires-2 : tie.Need-look-requires-2
-look-requires-2 c κs = search needs
-
 element-copy-out-a : tie.Need-element-copy-out-a
 element-copy-out-a c = search needs
 
@@ -16,7 +10,7 @@ element-copy-out-b : tie.Need-element-copy-out-b
 element-copy-out-b c = search needs
 
 counters-rest-requires : tie.Need-counters-rest-requires
-counters-rest-requires c κs = (c .before .before .before .look .ensures, c .before .before .look2 .ensures)
+counters-rest-requires c κs = search needs
 
 has-caught-requires : tie.Need-has-caught-requires
 has-caught-requires c κs = search needs
@@ -47,7 +41,7 @@ returns c =
     let first = second .before .before in
     let caught = first .before .before in
     let rest = caught .before in
-    let after = rest .before .before .before in
+    let start = rest .before .before .before in
     simp (
       c .stands2 .ensures,
       in-a .stands .ensures,
@@ -57,16 +51,14 @@ returns c =
       first .before .port-enabled .ensures,
       caught .has-caught .ensures,
       rest .counters-rest .ensures,
-      after .look2 .ensures,
-      after .before .look .ensures,
+      start .pre .0,
+      start .pre .1,
     )
 
 pub is-still-spec : {M : Type 1} → statement M
 is-still-spec =
     tie.close
     (tie.spec
-    look-requires
-    look-requires-2
     element-copy-out-a
     element-copy-out-b
     counters-rest-requires

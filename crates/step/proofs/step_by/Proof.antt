@@ -4,8 +4,8 @@ use Rattle.rules.specs.Counters.{linkOf}
 use Rattle.basics.proofs.Lists.{length-mapped}
 use Rattle.step.proofs.Apart.{put-together}
 use borrow.Author.Needs.{needs}
-use Rattle.step.proofs.step.Statement.{statement}
-use Rattle.step.proofs.step.Tie as tie
+use Rattle.step.proofs.step_by.Statement.{statement}
+use Rattle.step.proofs.step_by.Tie as tie
 
 -- as many as the struct has
 two : (c : tie.Start) → length (c .args .d1 .patterns) ≡ 2
@@ -16,12 +16,6 @@ three c = search (needs, length-mapped)
 
 five : (c : tie.Start) → length (c .args .d1 .sources) ≡ 5
 five c = search (needs, length-mapped)
-
-look-requires : tie.Need-look-requires
-look-requires c κs = search needs
-
-look-requires-2 : tie.Need-look-requires-2
-look-requires-2 c κs = search needs
 
 counter-turn-requires : tie.Need-counter-turn-requires
 counter-turn-requires c κs = search needs
@@ -44,8 +38,8 @@ counter-turn-requires-3 c κs = search needs
 caught-ports-requires : tie.Need-caught-ports-requires
 caught-ports-requires c κs = search needs
 
-look-requires-3 : tie.Need-look-requires-3
-look-requires-3 c κs = search needs
+look-requires : tie.Need-look-requires
+look-requires c κs = search needs
 
 pattern-turn-requires : tie.Need-pattern-turn-requires
 pattern-turn-requires c κs = search needs
@@ -67,8 +61,7 @@ returns c =
     let at-two = at-three .before .before .before .before .before in
     let at-link = at-two .before .before .before in
     let at-one = at-link .before .before .before .before .before .before in
-    let after-a = at-one .before .before .before in
-    let start = after-a .before .before in
+    let start = at-one .before .before .before in
     put-together
     _
     _
@@ -76,23 +69,21 @@ returns c =
     (two start)
     (three start)
     (five start)
-    (after-a .before .look .ensures)
-    (after-a .look2 .ensures)
+    (start .pre .0)
+    (start .pre .1)
     (at-one .counter-turn .ensures)
     (at-link .link .ensures ∙ ap₂ (linkOf _) (at-link .before .before .before .ct1-output .ensures) (at-link .before .output .ensures))
     (at-two .counter-turn2 .ensures)
     (at-three .counter-turn3 .ensures)
     (at-caught .caught-ports .ensures)
-    (at-sides .before .before .look3 .ensures)
+    (at-sides .before .before .look .ensures)
     (at-sides .before .pattern-turn .ensures)
     (at-sides .pattern-turn2 .ensures)
 
-pub step-spec : {M : Type 1} → statement M
-step-spec =
+pub step-by-spec : {M : Type 1} → statement M
+step-by-spec =
     tie.close
     (tie.spec
-    look-requires
-    look-requires-2
     counter-turn-requires
     ct1-output-requires
     output-requires
@@ -100,7 +91,7 @@ step-spec =
     counter-turn-requires-2
     counter-turn-requires-3
     caught-ports-requires
-    look-requires-3
+    look-requires
     pattern-turn-requires
     pattern-turn-requires-2
     way-write-given-e
