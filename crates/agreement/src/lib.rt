@@ -1,4 +1,6 @@
 // The bench: the answers of a board beside the model's, line by line.
+#![tactic(auto)]
+
 mod parting;
 
 use bench_lines::Compared;
@@ -7,7 +9,7 @@ use parting::Stop;
 use rules::Answer;
 
 // A device after an event, the model's answer to it, and that answer beside the board's.
-#[derive(Drop)]
+#[derive(Clone, Copy)]
 pub struct Turn {
     pub device: Chip,
     pub model: Answer,

@@ -12,7 +12,7 @@ use input::Reader;
 use texts::{ROOM, Text};
 
 // How many lines agree; then the number of the line that does not, or that is not there, and of what was found there.
-#[derive(Drop)]
+#[derive(Clone, Copy)]
 pub(crate) struct Stop {
     pub agreed: u64,
     pub line: u64,
@@ -38,7 +38,7 @@ fn beside(sound: bool, d: Chip, event: Text, board: Text) -> Turn
 }
 
 // Where two files have come to side by side: the device, the places in what was read of them, and how many lines agree.
-#[derive(Drop)]
+#[derive(Clone, Copy)]
 pub(crate) struct Abreast {
     pub device: Chip,
     pub event: usize,

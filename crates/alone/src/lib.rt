@@ -1,4 +1,6 @@
 // A counter that goes alone over k timer clocks, with its source, by division.
+#![tactic(auto)]
+
 ghost use Rattle.std.specs.Prelude.{◌≡◌, true, false, ◌<◌, ◌≤◌, ◌%◌};
 ghost use Rattle.rules.specs.Counters.{continuous, square};
 ghost use Rattle.rules.specs.Patterns.{event_by, hides_by};

@@ -1,4 +1,6 @@
 // Bytes of bits, words of bytes, and bytes laid into a buffer.
+#![tactic(auto)]
+
 ghost use Rattle.std.specs.Prelude.{◌≡◌, cond, ◌+◌, ◌*◌, ◌≤◌, length, get_or};
 ghost use Rattle.basics.specs.Byte.{byte_in, with_byte};
 ghost use Rattle.basics.specs.Buffer.{fits, laid_of};

@@ -104,7 +104,7 @@ fn field_end(line: &[u8], at: usize) -> usize
 }
 
 // What a field says, and where the next one begins, if there are more.
-#[derive(Drop)]
+#[derive(Clone, Copy)]
 pub(crate) struct Field {
     pub says: u64,
     pub at: usize,

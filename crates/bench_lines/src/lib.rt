@@ -1,4 +1,6 @@
 // The bench: an answer of the board, as a line has it, beside the model's.
+#![tactic(auto)]
+
 mod agreed;
 mod comparing;
 mod fields;
@@ -12,7 +14,7 @@ pub use names::field_name;
 pub const FIELDS: usize = 13;
 
 // A line beside an answer: whether it is readable, whether no field differs, and which do.
-#[derive(Drop)]
+#[derive(Clone, Copy)]
 pub struct Compared {
     pub readable: bool,
     pub agrees: bool,

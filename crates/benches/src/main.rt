@@ -1,5 +1,7 @@
 // Boards beside the model, one after the other: boards that agree, with holes and without; a difference in each field; from an image of
 // each version and of a Z8536; and each refusal.
+#![tactic(auto)]
+
 use libc::STDOUT_FILENO;
 
 fn agree(trace: &[u8], board: &[u8], image: &[u8]) {

@@ -1,4 +1,6 @@
 // Answers each line of standard input on standard output, from a row of fresh devices. Its argument says how many, 1 to 8.
+#![tactic(auto)]
+
 ghost use Rattle.std.specs.Prelude.{◌≡◌};
 ghost use Rattle.row_bridge.specs.Boards.{boarded};
 ghost use Rattle.row_lines.specs.RowLines.{row_line};

@@ -1,4 +1,6 @@
 // A device by value goes through the call that alters it where it stands: whoever calls this needs no walk by hand.
+#![tactic(auto)]
+
 ghost use Rattle.std.specs.Prelude.{◌≡◌};
 ghost use Rattle.rules.specs.Events.{event_of};
 

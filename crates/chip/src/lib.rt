@@ -1,4 +1,6 @@
 // Either device, a Z8036 or a Z8536, and its event call.
+#![tactic(auto)]
+
 mod sure;
 
 ghost use Rattle.std.specs.Prelude.{◌≡◌};
@@ -9,7 +11,7 @@ pub use sure::{known, sound};
 use z8536::Z8536;
 
 // `z8536` tells which it is; of a Z8036 only the core counts.
-#[derive(Drop)]
+#[derive(Clone, Copy)]
 pub struct Chip {
     pub z8536: bool,
     pub device: Z8536,
@@ -48,7 +50,7 @@ impl Chip {
 }
 
 // What an event hands back.
-#[derive(Drop)]
+#[derive(Clone, Copy)]
 pub struct OutcomeChip {
     pub device: Chip,
     pub answer: Answer,

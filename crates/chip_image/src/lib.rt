@@ -1,4 +1,6 @@
 // Save and restore of either device.
+#![tactic(auto)]
+
 ghost use Rattle.std.specs.Prelude.{◌≡◌, length};
 ghost use Rattle.chip_image.specs.ChipImage.{length_chip, save_code_chip, saved_chip, restored_chip};
 
@@ -7,7 +9,7 @@ use rules::Device;
 use z8536::Z8536;
 
 // What a restore answers.
-#[derive(Drop)]
+#[derive(Clone, Copy)]
 pub struct RestoredChip {
     pub code: u8,
     pub device: Chip,

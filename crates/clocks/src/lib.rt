@@ -1,4 +1,6 @@
 // T n: each part that goes alone by division; CT1, CT2 and Port B's side, where a link or a pattern ties them, by leaps and rounds.
+#![tactic(auto)]
+
 mod reports;
 
 ghost use Rattle.std.specs.Prelude.{◌≡◌, true, false, not, ◌||◌, eqb, ◌+◌, ◌/◌, ◌%◌, ◌<◌};

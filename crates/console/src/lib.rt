@@ -1,4 +1,6 @@
 // Texts and answers on descriptors.
+#![tactic(auto)]
+
 ghost use Rattle.std.specs.Prelude.{false, ◌≡◌, ◌≤◌, ◌<◌, length};
 ghost use Rattle.texts.specs.Kept.{text_room};
 ghost use Rattle.session.specs.Sessions.{device_last};
@@ -20,7 +22,7 @@ pub fn print(fd: i32, t: Text) -> bool
 }
 
 // A session, whether to go on, and whether all answers are written.
-#[derive(Drop)]
+#[derive(Clone, Copy)]
 struct Turn {
     session: Session,
     more: bool,
@@ -96,7 +98,7 @@ fn answer_all(s: Session, input: i32, read: &mut [u8], out: &mut [u8], answers: 
 }
 
 // A device after a trace, and whether all answers are written.
-#[derive(Drop)]
+#[derive(Clone, Copy)]
 pub struct Ended {
     pub device: Chip,
     pub ok: bool,

@@ -1,4 +1,6 @@
 // One counter/timer: its count, its output, its turn in a step, and a write of its command.
+#![tactic(auto)]
+
 ghost use Rattle.std.specs.Prelude.{◌≡◌};
 ghost use Rattle.rules.specs.Counters.{continuous, count_input, trigger_input, gate_input, retrigger, square};
 ghost use Rattle.rules.specs.Counters.{takes, loaded, less_one, terminal_of, count_of, output_of, reach_of, clocks, clocked_by, pulse_of, turn_of, frozen_by, triggered_by, commanded_by};

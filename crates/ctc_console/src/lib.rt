@@ -1,4 +1,6 @@
 // A CTC's trace on descriptors, line by line.
+#![tactic(auto)]
+
 ghost use Rattle.std.specs.Prelude.{◌≡◌};
 ghost use Rattle.ctc_lines.specs.Lines.{outcome_kept};
 
@@ -6,7 +8,7 @@ use ctc_rules::Ctc;
 use texts::Text;
 
 // A device after a trace, and whether all answers are written.
-#[derive(Drop)]
+#[derive(Clone, Copy)]
 pub struct CtcEnded {
     pub device: Ctc,
     pub ok: bool,

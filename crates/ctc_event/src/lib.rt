@@ -1,4 +1,6 @@
 // The event call of the CTC and its end of service, by value: any record and any event, to an answer beside the record.
+#![tactic(auto)]
+
 mod channels;
 mod effects;
 mod serving;

@@ -1,4 +1,6 @@
 // The image of a Z80 CTC: a record saved into a lent buffer, and restored from a lent image.
+#![tactic(auto)]
+
 mod bodies_in;
 mod bodies_out;
 
@@ -9,7 +11,7 @@ ghost use Rattle.ctc_image.specs.Image.{save_code_ctc, saved_ctc, refused_ctc, a
 use ctc_rules::Ctc;
 
 // What a restore answers.
-#[derive(Drop)]
+#[derive(Clone, Copy)]
 pub struct CtcRestored {
     pub code: u8,
     pub device: Ctc,

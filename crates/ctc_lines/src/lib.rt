@@ -1,4 +1,6 @@
 // The lines of a CTC's trace: what one says, and the line of its answer.
+#![tactic(auto)]
+
 mod answers;
 mod reading;
 

@@ -1,4 +1,6 @@
 // The calls on a CTC that the host lends: an event and the end of service alter it where it stands.
+#![tactic(auto)]
+
 ghost use Rattle.std.specs.Prelude.{◌≡◌};
 ghost use Rattle.ctc_rules.specs.Events.{event_ctc, end_of_service};
 

@@ -1,12 +1,14 @@
 // The record of a Z80 CTC, its channels, and what comes out of an event, in the names of docs/CTC.md. What goes in is `rules::Event`.
 // The rules over them are in specs/; the event call and the end of service are in `ctc_event`.
+#![tactic(auto)]
+
 ghost use Rattle.std.specs.Prelude.{◌≡◌};
 ghost use Rattle.ctc_rules.specs.Record.{blank_channel, fresh_ctc};
 ghost use Rattle.ctc_rules.specs.Sound.{sound_channel, sound_ctc};
 
 // One of the four channels. `control` keeps D7-D3 of its control word; `loaded` says that it has a constant, `awaits` that the next word
 // written to it is one.
-#[derive(Drop)]
+#[derive(Clone, Copy)]
 pub struct Channel {
     pub control: u8,
     pub constant: u8,
@@ -39,7 +41,7 @@ impl Channel {
 }
 
 // The device. `channels` stand in their order of priority; `vector` keeps D7-D3; `levels` are those of the trigger inputs, Di of channel i.
-#[derive(Drop)]
+#[derive(Clone, Copy)]
 pub struct Ctc {
     pub channels: [Channel; 4],
     pub vector: u8,
@@ -66,28 +68,28 @@ impl Ctc {
 }
 
 // A channel after a count or a clock, and whether that was a zero count.
-#[derive(Drop)]
+#[derive(Clone, Copy)]
 pub struct Zeroed {
     pub channel: Channel,
     pub zero: bool,
 }
 
 // A channel after some clocks, and its zero counts in them.
-#[derive(Drop)]
+#[derive(Clone, Copy)]
 pub struct ChannelRan {
     pub channel: Channel,
     pub zeros: u32,
 }
 
 // The device after some clocks, and the zero counts of its channels in them.
-#[derive(Drop)]
+#[derive(Clone, Copy)]
 pub struct CtcRan {
     pub device: Ctc,
     pub zeros: [u32; 4],
 }
 
 // What an accepted event does: the record, the value, and the zero counts.
-#[derive(Drop)]
+#[derive(Clone, Copy)]
 pub struct CtcEffect {
     pub device: Ctc,
     pub value: u8,
@@ -95,7 +97,7 @@ pub struct CtcEffect {
 }
 
 // The answer to an event, and to the end of service.
-#[derive(Drop)]
+#[derive(Clone, Copy)]
 pub struct CtcAnswer {
     pub code: u8,
     pub value: u8,
@@ -106,7 +108,7 @@ pub struct CtcAnswer {
 }
 
 // What they hand back.
-#[derive(Drop)]
+#[derive(Clone, Copy)]
 pub struct CtcOutcome {
     pub device: Ctc,
     pub answer: CtcAnswer,

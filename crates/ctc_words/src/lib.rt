@@ -1,4 +1,6 @@
 // A CTC in words, line by line.
+#![tactic(auto)]
+
 mod cells;
 
 ghost use Rattle.std.specs.Prelude.{◌≡◌};

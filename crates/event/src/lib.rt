@@ -1,4 +1,6 @@
 // The event call, by value: any record and any event, to an answer beside the record. An event is a code, an effect, an answer.
+#![tactic(auto)]
+
 mod effects;
 
 ghost use Rattle.std.specs.Prelude.{◌≡◌};

@@ -1,4 +1,6 @@
 // The event call of the Z8536, by value: any record and any event, to an answer beside the record.
+#![tactic(auto)]
+
 mod accesses;
 
 ghost use Rattle.std.specs.Prelude.{◌≡◌};

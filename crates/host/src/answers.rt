@@ -13,7 +13,7 @@ pub(crate) const CTC: usize = 21;
 pub(crate) const LINES: usize = 3;
 
 // The four bytes of a count.
-#[derive(Drop)]
+#[derive(Clone, Copy)]
 struct Four {
     top: u8,
     upper: u8,

@@ -1,5 +1,7 @@
 // What a host in C, Rust or another language links, by `rt staticlib host`: the calls by value, on a state that is the device's image in
 // the host's own buffer. hosts/wolfscarer.h declares them. A slice is a pointer and then a length.
+#![tactic(auto)]
+
 mod answers;
 
 ghost use Rattle.std.specs.Prelude.{◌≡◌};

@@ -1,4 +1,6 @@
 // The image: a record saved into a lent buffer, and restored from a lent image. The Z8536's are in `pointed`.
+#![tactic(auto)]
+
 mod contents;
 mod pointed;
 
@@ -11,13 +13,13 @@ use rules::Device;
 use z8536::Z8536;
 
 // What a restore answers, of either device.
-#[derive(Drop)]
+#[derive(Clone, Copy)]
 pub struct Restored {
     pub code: u8,
     pub device: Device,
 }
 
-#[derive(Drop)]
+#[derive(Clone, Copy)]
 pub struct RestoredZ8536 {
     pub code: u8,
     pub device: Z8536,

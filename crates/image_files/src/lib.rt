@@ -1,4 +1,6 @@
 // The night: a device restored from an image file, a trace run on it, and the device saved again.
+#![tactic(auto)]
+
 mod files;
 
 use chip::Chip;
@@ -9,7 +11,7 @@ use rules::Device;
 
 // A device, and whether there is one; where not, a line has said why. A CTC is in `ctc`, beside a fresh Z8036; any other in `device`,
 // beside a fresh CTC.
-#[derive(Drop)]
+#[derive(Clone, Copy)]
 pub struct Loaded {
     pub device: Chip,
     pub ctc: Ctc,

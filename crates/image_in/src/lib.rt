@@ -1,4 +1,6 @@
 // The bodies of an image, read: the record that they tell, and whether their unused bits are 0. Of version 1 the last is empty.
+#![tactic(auto)]
+
 mod bits;
 mod registers;
 mod rest;

@@ -1,4 +1,6 @@
 // The bodies of a record's image, written.
+#![tactic(auto)]
+
 mod registers;
 mod rest;
 

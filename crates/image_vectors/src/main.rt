@@ -1,5 +1,7 @@
 // Restores the images on standard input, a line of hexadecimal digits for each, and prints the code of each; with 0 the image that
 // saving its record writes. A line that begins with Z goes to the Z8536's restore.
+#![tactic(auto)]
+
 ghost use Rattle.std.specs.Prelude.{◌<◌};
 
 use libc::{STDIN_FILENO, STDOUT_FILENO};
@@ -7,7 +9,7 @@ use rules::Device;
 use z8536::Z8536;
 
 // The bytes of a line so far, two digits to a byte, and whether it is for the Z8536; a longer line keeps its first 128.
-#[derive(Drop)]
+#[derive(Clone, Copy)]
 struct Line {
     bytes: [u8; 128],
     digits: usize,
@@ -146,7 +148,7 @@ fn print_codes(l: Line, piece: &[u8]) -> Line {
 }
 
 // What is left of a line, and whether there may be more of the input.
-#[derive(Drop)]
+#[derive(Clone, Copy)]
 struct Turn {
     line: Line,
     more: bool,

@@ -1,4 +1,6 @@
 // The calls on a device that the host lends: an event alters it where it stands, and its lines are read without one.
+#![tactic(auto)]
+
 ghost use Rattle.std.specs.Prelude.{◌≡◌, true};
 ghost use Rattle.rules.specs.Interrupts.{lines_of};
 ghost use Rattle.rules.specs.Sound.{sound_of};

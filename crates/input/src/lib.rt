@@ -1,4 +1,6 @@
 // The lines of an input one after the other, through a lent buffer.
+#![tactic(auto)]
+
 ghost use Rattle.std.specs.Prelude.{◌≡◌, true};
 ghost use Rattle.input.specs.Input.{unread, handed as handed_of, line_next, line_last};
 
@@ -6,7 +8,7 @@ use lines::Cut;
 use texts::Text;
 
 // What is kept of a line that has not ended, and which bytes of the buffer are still to come: from one place to another.
-#[derive(Drop)]
+#[derive(Clone, Copy)]
 pub struct Reader {
     pub text: Text,
     pub at: usize,
@@ -14,7 +16,7 @@ pub struct Reader {
 }
 
 // A line, or none at the end of the input, and how to go on.
-#[derive(Drop)]
+#[derive(Clone, Copy)]
 pub struct Next {
     pub reader: Reader,
     pub text: Text,

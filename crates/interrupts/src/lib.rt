@@ -1,4 +1,6 @@
 // The five sources of a device: who requests, the lines, the acknowledge, and vectors.
+#![tactic(auto)]
+
 mod order;
 mod vectors;
 

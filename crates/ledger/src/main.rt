@@ -1,5 +1,7 @@
 // Codes through Port B over three nights, and their ledger. The host writes the next code where ORE has room; the outside takes the
 // byte at the pins while DAV is shown, and acknowledges it at its own pace; each night the device is saved and restored.
+#![tactic(auto)]
+
 use libc::STDOUT_FILENO;
 use rules::{Device, Event, Outcome};
 
@@ -9,7 +11,7 @@ const CODES: usize = 24;
 const BEATS: u32 = 20;
 
 // The device, the next code to be written, whether ACKIN is low, and how often each code was written and has left.
-#[derive(Drop)]
+#[derive(Clone, Copy)]
 struct Ledger {
     device: Device,
     next: usize,

@@ -1,4 +1,6 @@
 // What the ports of a device show: the values put out, pins, path values and data.
+#![tactic(auto)]
+
 mod handshake;
 mod port;
 
@@ -173,7 +175,7 @@ fn value_at(d: Device, p: usize) -> u8
 }
 
 // A port with what is in effect, and the value that it puts out.
-#[derive(Drop)]
+#[derive(Clone, Copy)]
 struct Face {
     port: Port,
     value: u8,
@@ -232,7 +234,7 @@ pub fn seen_at(d: Device, p: usize) -> u8
 }
 
 // What a step compares: the path values of ports B and C, which have the counters' lines, and what the patterns of A and B see.
-#[derive(Drop)]
+#[derive(Clone, Copy)]
 pub struct Looks {
     pub b: u8,
     pub c: u8,

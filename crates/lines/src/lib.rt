@@ -1,4 +1,6 @@
 // The lines of a trace: cut from an input that comes in pieces, and read as events.
+#![tactic(auto)]
+
 mod long;
 mod pieces;
 mod reading;
@@ -9,14 +11,14 @@ use rules::Event;
 use texts::Text;
 
 // What a line says.
-#[derive(Drop)]
+#[derive(Clone, Copy)]
 pub enum Line {
     Said(Event),
     Unreadable,
 }
 
 // What was found of a line in a piece: its bytes, the place in the piece after them, and whether the line is whole.
-#[derive(Drop)]
+#[derive(Clone, Copy)]
 pub struct Cut {
     pub text: Text,
     pub next: usize,

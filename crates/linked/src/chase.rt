@@ -10,7 +10,7 @@ use rules::Counter;
 use theorems::{Pair, Side};
 
 // Some clocks of a run at once.
-#[derive(Drop)]
+#[derive(Clone, Copy)]
 pub struct Leap {
     pub pair: Pair,
     pub clocks: u32,
@@ -18,7 +18,7 @@ pub struct Leap {
 
 // A run in search of its rounds: the present, an earlier moment (the anchor), the clocks and the leaps since, after how many
 // leaps the anchor is renewed, and the clocks that are left.
-#[derive(Drop)]
+#[derive(Clone, Copy)]
 pub struct Chase {
     pub now: Pair,
     pub anchor: Pair,

@@ -1,5 +1,7 @@
 // CT1, CT2 and Port B's side over k timer clocks, where a link or a pattern ties them: clock by clock, but for the stretches in which clocks
 // only take one from the counts, which are one leap; and in a longer run, when all three come back to what they were, all whole rounds at once.
+#![tactic(auto)]
+
 mod chase;
 mod stage;
 

@@ -11,7 +11,7 @@ use theorems::{Pair, Side};
 
 // What stays in a run: the version, LC, whether the two counters are enabled and their lines; whether Port B is enabled, its pattern, and
 // what it sees with the outputs of CT1 and CT2 at 0 and 0, 0 and 1, 1 and 0, 1 and 1.
-#[derive(Drop)]
+#[derive(Clone, Copy)]
 pub struct Stage {
     pub version: u8,
     pub lc: u8,

@@ -1,4 +1,6 @@
 // How long interrupts wait (W-201): the measure of a trace, beside the device.
+#![tactic(auto)]
+
 mod rises;
 mod steps;
 mod waits;
@@ -11,7 +13,7 @@ use rules::{Answer, Device, Event};
 
 // What a source's interrupts waited: whether a wait runs and since which clock of the trace, and of the waits that were
 // acknowledged how many, the least, the greatest and the sum, in PCLK clocks.
-#[derive(Drop)]
+#[derive(Clone, Copy)]
 pub struct Wait {
     pub waiting: bool,
     pub since: u32,
@@ -22,14 +24,14 @@ pub struct Wait {
 }
 
 // The measure of a trace so far: its clocks, and the waits of CT3, A, CT2, B, CT1.
-#[derive(Drop)]
+#[derive(Clone, Copy)]
 pub struct Measure {
     pub clocks: u32,
     pub waits: [Wait; 5],
 }
 
 // What the measuring call hands back.
-#[derive(Drop)]
+#[derive(Clone, Copy)]
 pub struct Measured {
     pub measure: Measure,
     pub device: Device,

@@ -7,7 +7,7 @@ ghost use Rattle.measure.specs.Rise.{ip_after, Rises, Between};
 use rules::Device;
 
 // A record with IP 0, the clocks that it is past the T's first, and after how many more IP is 1.
-#[derive(Drop)]
+#[derive(Clone, Copy)]
 pub struct Search {
     pub device: Device,
     pub passed: u32,

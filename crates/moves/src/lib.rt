@@ -1,4 +1,6 @@
 // The bytes of a port with handshake: taken at a strobe and given at a read; stored at a write and left at an acknowledge.
+#![tactic(auto)]
+
 ghost use Rattle.std.specs.Prelude.{◌≡◌, true, false, ◌<◌, ltb};
 ghost use Rattle.basics.specs.Signs.{if◌then◌else◌, ◌==◌};
 ghost use Rattle.rules.specs.With.{with_transfer, with_unfinished};

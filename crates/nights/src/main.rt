@@ -1,6 +1,8 @@
 // Nights and devices in words, one after the other: what `show` prints of four images, a night with one argument, a night
 // refused in each way, a night cut in three, a night between two long runs, one of a version 1 device, one with a
 // handshake, one of a Z8536, one of a CTC, and one between long runs by division, and by leaps and rounds.
+#![tactic(auto)]
+
 use chip::Chip;
 use ctc_rules::Ctc;
 use libc::{STDIN_FILENO, STDOUT_FILENO};

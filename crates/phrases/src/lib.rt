@@ -1,4 +1,6 @@
 // A word typed byte by byte, and what is said of a file after its name.
+#![tactic(auto)]
+
 ghost use Rattle.std.specs.Prelude.{◌≡◌};
 ghost use Rattle.texts.specs.Kept.{typed};
 

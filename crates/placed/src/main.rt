@@ -1,5 +1,7 @@
 // A trace through the call that alters a device where it stands, beside the same trace through the call that hands a
 // record back. Three lines for each event: the answer in place, the answer by value, and 1 where the two records are the same.
+#![tactic(auto)]
+
 use libc::STDOUT_FILENO;
 use rules::{Device, Event};
 
@@ -67,7 +69,7 @@ const TRACE: [[u32; 4]; EVENTS] = [
 ];
 
 // The device that is altered where it stands, and the record that is handed back.
-#[derive(Drop)]
+#[derive(Clone, Copy)]
 struct Pair {
     placed: Device,
     handed: Device,

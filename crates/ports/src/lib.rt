@@ -1,4 +1,6 @@
 // What several crates ask of one port or its pattern, by masks over the whole byte. The laws of all such masks are in proofs/.
+#![tactic(auto)]
+
 ghost use Rattle.std.specs.Prelude.{◌≡◌};
 ghost use Rattle.basics.specs.Byte.{bit, byte_of};
 ghost use Rattle.rules.specs.PortData.{catches_at};

@@ -1,4 +1,6 @@
 // What the register at an address reads, and what the read leaves.
+#![tactic(auto)]
+
 ghost use Rattle.std.specs.Prelude.{◌≡◌, ◌<◌};
 ghost use Rattle.rules.specs.Record.{counter_at};
 ghost use Rattle.rules.specs.With.{with_counter};

@@ -1,4 +1,6 @@
 // What a reset leaves of a record, and whether two records are the same.
+#![tactic(auto)]
+
 ghost use Rattle.std.specs.Prelude.{◌≡◌, ◌<◌};
 ghost use Rattle.rules.specs.Record.{port_at, counter_at, source_at, reset_of};
 ghost use Rattle.rules.specs.Sound.{same_source, same_counter, same_port, same_pattern, same_transfer, same_sources, same_counters, same_ports, same_patterns, same_transfers, same_vectors, same_lines, same_of};

@@ -1,4 +1,6 @@
 // What is refused: whether a record is sound, and the code of an event.
+#![tactic(auto)]
+
 mod codes;
 mod settings;
 mod soundness;

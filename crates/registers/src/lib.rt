@@ -1,4 +1,6 @@
 // What kind each of the 48 registers is, by ranges of the address.
+#![tactic(auto)]
+
 ghost use Rattle.std.specs.Prelude.{◌≡◌};
 ghost use Rattle.rules.specs.Registers.{port_kind, kind_of};
 

@@ -1,4 +1,6 @@
 // The event call on a row of devices that the host lends, the first nearest the processor (W-212).
+#![tactic(auto)]
+
 ghost use Rattle.std.specs.Prelude.{◌≡◌};
 ghost use Rattle.rows.specs.Rows.{row_answer, row_after};
 ghost use Rattle.row.specs.Passes.{pass_along, row_along};

@@ -1,4 +1,6 @@
 // A board by value goes through the call that takes a row by `&mut`: whoever calls this needs no walk by hand.
+#![tactic(auto)]
+
 ghost use Rattle.std.specs.Prelude.{◌≡◌, ◌≤◌};
 ghost use Rattle.row_bridge.specs.Boards.{few_of, boarded};
 
@@ -6,7 +8,7 @@ use rows::{RowAnswer, RowEvent};
 use rules::Device;
 
 // Room for eight devices after an event, and the answer.
-#[derive(Drop)]
+#[derive(Clone, Copy)]
 pub struct Boarded {
     pub devices: [Device; 8],
     pub answer: RowAnswer,

@@ -1,4 +1,6 @@
 // The lines of a board, read as events of a row, and the bytes of its answers.
+#![tactic(auto)]
+
 ghost use Rattle.std.specs.Prelude.{◌≡◌, ◌-◌, drop};
 ghost use Rattle.rows.specs.Rows.{names as names_of};
 ghost use Rattle.texts.specs.Kept.{no_text, typed};

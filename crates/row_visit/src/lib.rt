@@ -1,5 +1,7 @@
 // One device of a row, and what goes along the row from each device to the next. An event of a row is two passes: the first looks
 // (is the row sound, how long is it, what does the device say that the event reaches), the second acts, or shows the row as it stands.
+#![tactic(auto)]
+
 mod acts;
 mod looks;
 
@@ -14,7 +16,7 @@ use rules::Device;
 // What goes along the row. The first pass looks; the second acts on the devices, or not, and shows them in the answer, or not. `to` is
 // how many devices come before the one that is named, `found` whether the one reached has come by, `place` how many have come by, of
 // more than eight 9; `high` is the IEO of the one before, and `sound` tells of those that have come by.
-#[derive(Drop)]
+#[derive(Clone, Copy)]
 pub struct Pass {
     pub event: RowEvent,
     pub looks: bool,
@@ -29,7 +31,7 @@ pub struct Pass {
 }
 
 // A device that a pass has visited, and the pass.
-#[derive(Drop)]
+#[derive(Clone, Copy)]
 pub struct Seen {
     pub device: Device,
     pub pass: Pass,

@@ -1,16 +1,18 @@
 // A row of devices on one board, the first nearest the processor: what goes in and comes out of its events (W-212). The rules over it
 // are in specs/.
+#![tactic(auto)]
+
 use rules::{Event, Report};
 
 // An event of a row, and the device that it names, the first is 0. A kind that names none ignores the number.
-#[derive(Drop)]
+#[derive(Clone, Copy)]
 pub struct RowEvent {
     pub device: u32,
     pub event: Event,
 }
 
 // What an answer says of one device.
-#[derive(Drop)]
+#[derive(Clone, Copy)]
 pub struct Shown {
     pub a: u8,
     pub b: u8,
@@ -21,7 +23,7 @@ pub struct Shown {
 }
 
 // The answer to an event of a row: one code and value, and each device. Places past the end of the row are all 0.
-#[derive(Drop)]
+#[derive(Clone, Copy)]
 pub struct RowAnswer {
     pub code: u8,
     pub value: u8,

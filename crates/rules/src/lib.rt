@@ -1,11 +1,13 @@
 // The record of a Z8036, its parts, and what goes in and comes out of an event, in the names of paper 01.
 // The rules over them are in specs/, in the paper's words.
+#![tactic(auto)]
+
 ghost use Rattle.std.specs.Prelude.{◌≡◌, ◌%◌};
 ghost use Rattle.rules.specs.Record.{quiet, idle, bare, blank, vacant, silent, fresh_of, image_len, register_count, of_port, of_counter};
 ghost use Rattle.rules.specs.Registers.{reset};
 
 // One of the five interrupt sources: what its command register shows, and the hidden error, which none does.
-#[derive(Drop)]
+#[derive(Clone, Copy)]
 pub struct Source {
     pub ius: bool,
     pub ie: bool,
@@ -55,7 +57,7 @@ impl Source {
 }
 
 // One of the three counter/timers. `frozen` is what 10H-15H read while RCC is 1; `pulse` stands from a terminal on.
-#[derive(Drop)]
+#[derive(Clone, Copy)]
 pub struct Counter {
     pub mode: u8,
     pub constant: u16,
@@ -88,7 +90,7 @@ impl Counter {
 }
 
 // The data of one of the ports A, B and C: three settings, the output register, the outside levels, the catchers.
-#[derive(Drop)]
+#[derive(Clone, Copy)]
 pub struct Port {
     pub polarity: u8,
     pub direction: u8,
@@ -115,7 +117,7 @@ impl Port {
 }
 
 // What ports A and B have and C has not: mode, handshake, pattern, IOE and PMF.
-#[derive(Drop)]
+#[derive(Clone, Copy)]
 pub struct Pattern {
     pub mode: u8,
     pub handshake: u8,
@@ -145,7 +147,7 @@ impl Pattern {
 
 // What a port with handshake holds: the front byte, the byte behind it, how many are held, a transfer that is unfinished,
 // and a pair of reads or writes half done.
-#[derive(Drop)]
+#[derive(Clone, Copy)]
 pub struct Transfer {
     pub front: u8,
     pub behind: u8,
@@ -170,7 +172,7 @@ impl Transfer {
 }
 
 // The interrupt lines as they are stored: INT, IEO, and the place of the highest requester in the order CT3, A, CT2, B, CT1, 1 to 5, 0 if none requests.
-#[derive(Drop)]
+#[derive(Clone, Copy)]
 pub struct Lines {
     pub int: bool,
     pub ieo: bool,
@@ -192,7 +194,7 @@ impl Lines {
 
 // The device. `version` is 1 or 2, of its pulse and its image; `vectors` are A, B, CT; `ports` A, B, C; `patterns` and `transfers` A, B; `counters` 1, 2, 3;
 // `sources` stand in their order of priority: CT3, A, CT2, B, CT1.
-#[derive(Drop)]
+#[derive(Clone, Copy)]
 pub struct Device {
     pub version: u8,
     pub master: u8,
@@ -270,7 +272,7 @@ impl Device {
 }
 
 // A kind and three numbers; a kind ignores those that it does not use.
-#[derive(Drop)]
+#[derive(Clone, Copy)]
 pub struct Event {
     pub kind: u32,
     pub a: u32,
@@ -296,14 +298,14 @@ impl Event {
 }
 
 // What an answer reports of its clocks: the terminal counts of counters 1, 2, 3, and how many of them were lost.
-#[derive(Drop)]
+#[derive(Clone, Copy)]
 pub struct Report {
     pub terminals: [u32; 3],
     pub lost: [u32; 3],
 }
 
 // The answer to an event.
-#[derive(Drop)]
+#[derive(Clone, Copy)]
 pub struct Answer {
     pub code: u8,
     pub value: u8,
@@ -316,7 +318,7 @@ pub struct Answer {
 }
 
 // What an event hands back.
-#[derive(Drop)]
+#[derive(Clone, Copy)]
 pub struct Outcome {
     pub device: Device,
     pub answer: Answer,
@@ -324,7 +326,7 @@ pub struct Outcome {
 
 // The kind of a register. The number is the port's (A, B, C), the counter's or the vector's place;
 // of a word's two registers the bool tells the high byte.
-#[derive(Drop)]
+#[derive(Clone, Copy)]
 pub enum Kind {
     Master,
     Config,
@@ -348,14 +350,14 @@ pub enum Kind {
 }
 
 // A counter after its turn in a step, and whether it was terminal.
-#[derive(Drop)]
+#[derive(Clone, Copy)]
 pub struct Counted {
     pub counter: Counter,
     pub terminal: bool,
 }
 
 // What CT1's output does to CT2: a trigger, a gate, and whether it is the only count source and counts.
-#[derive(Drop)]
+#[derive(Clone, Copy)]
 pub struct Link {
     pub trigger: bool,
     pub gate: bool,
@@ -364,7 +366,7 @@ pub struct Link {
 }
 
 // What reaches a counter in a step: a trigger, an open gate, a count.
-#[derive(Drop)]
+#[derive(Clone, Copy)]
 pub struct Reach {
     pub trigger: bool,
     pub gate: bool,
@@ -372,7 +374,7 @@ pub struct Reach {
 }
 
 // What became of an event (a terminal, a match) at its source: none came, it was taken, kept as the hidden error, or lost.
-#[derive(Drop)]
+#[derive(Clone, Copy)]
 pub enum Fate {
     Nothing,
     Taken,
@@ -381,14 +383,14 @@ pub enum Fate {
 }
 
 // A device in the middle of a step, after one counter's turn, and what became of its terminal.
-#[derive(Drop)]
+#[derive(Clone, Copy)]
 pub struct Turned {
     pub device: Device,
     pub fate: Fate,
 }
 
 // A device after a step, which of the counters 1, 2, 3 were terminal, and which terminals were lost.
-#[derive(Drop)]
+#[derive(Clone, Copy)]
 pub struct Stepped {
     pub device: Device,
     pub terminals: [bool; 3],
@@ -396,14 +398,14 @@ pub struct Stepped {
 }
 
 // A device after some clocks, and their report.
-#[derive(Drop)]
+#[derive(Clone, Copy)]
 pub struct Ran {
     pub device: Device,
     pub report: Report,
 }
 
 // What an accepted event does: the record, the value and the report.
-#[derive(Drop)]
+#[derive(Clone, Copy)]
 pub struct Effect {
     pub device: Device,
     pub value: u8,

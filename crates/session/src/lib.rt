@@ -1,4 +1,6 @@
 // The session of the trace program: a device, what is kept of a line that has not ended, and answers in a lent buffer.
+#![tactic(auto)]
+
 ghost use Rattle.std.specs.Prelude.{◌≡◌, true, cond, ◌+◌, ◌≤◌, length};
 ghost use Rattle.chip.specs.Chips.{sound_chip, event_chip};
 ghost use Rattle.texts.specs.Answers.{answer_text};
@@ -10,14 +12,14 @@ use chip::Chip;
 use rules::Event;
 use texts::Text;
 
-#[derive(Drop)]
+#[derive(Clone, Copy)]
 pub struct Session {
     pub device: Chip,
     pub text: Text,
 }
 
 // A session after some bytes of a piece: the place after them, and how long the answers in the buffer are.
-#[derive(Drop)]
+#[derive(Clone, Copy)]
 pub struct Fed {
     pub session: Session,
     pub next: usize,
@@ -25,7 +27,7 @@ pub struct Fed {
 }
 
 // A device after a line, and where its answer ends in the buffer.
-#[derive(Drop)]
+#[derive(Clone, Copy)]
 pub struct Told {
     pub device: Chip,
     pub len: usize,

@@ -1,4 +1,6 @@
 // Prints the device of the image file that its argument names, in words.
+#![tactic(auto)]
+
 use libc::{STDERR_FILENO, STDOUT_FILENO};
 
 fn main() {

@@ -1,4 +1,6 @@
 // One interrupt source: commands, events, and what its command register reads.
+#![tactic(auto)]
+
 ghost use Rattle.std.specs.Prelude.{◌≡◌, true, ◌≤◌};
 ghost use Rattle.rules.specs.Registers.{ip_cleared, commanded, status_of, port_command_of, counter_command_of};
 ghost use Rattle.rules.specs.With.{with_ius, with_ie, with_ip};

@@ -1,4 +1,6 @@
 // One step of a device, (a) to (f).
+#![tactic(auto)]
+
 mod pattern;
 mod still;
 
@@ -19,7 +21,7 @@ pub use still::{has_caught, untimed};
 use theorems::Side;
 
 // What a counter's turn leaves: the counter, its source, and whether a terminal came and was lost.
-#[derive(Drop)]
+#[derive(Clone, Copy)]
 struct Turn {
     counter: Counter,
     source: Source,

@@ -1,4 +1,6 @@
 // The bytes of a line: as they are kept, as an answer has them, and laid into a buffer.
+#![tactic(auto)]
+
 mod answers;
 mod kept;
 mod written;
@@ -10,7 +12,7 @@ pub use kept::{no_text, push};
 pub const ROOM: usize = 96;
 
 // The bytes of a line, its first `len`; a `len` above ROOM says that they have no room.
-#[derive(Drop)]
+#[derive(Clone, Copy)]
 pub struct Text {
     pub bytes: [u8; ROOM],
     pub len: usize,

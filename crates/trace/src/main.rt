@@ -1,4 +1,6 @@
 // Answers each line of standard input on standard output, from the fresh Z8036.
+#![tactic(auto)]
+
 use chip::Chip;
 use libc::{STDIN_FILENO, STDOUT_FILENO};
 use rules::Device;

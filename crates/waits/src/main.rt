@@ -1,5 +1,7 @@
 // Answers each line of standard input on standard output, from the fresh device, and measures how long interrupts wait; at the
 // end of the input the table, a line each for CT3, A, CT2, B, CT1: acknowledged, least, greatest, sum.
+#![tactic(auto)]
+
 ghost use Rattle.std.specs.Prelude.{◌≡◌};
 ghost use Rattle.lines.specs.Lines.{event_in, says_of};
 ghost use Rattle.measure.specs.Measure.{measured_of};

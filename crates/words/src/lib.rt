@@ -1,4 +1,6 @@
 // The device in words.
+#![tactic(auto)]
+
 mod cells;
 mod counters_shown;
 mod heads;

@@ -1,4 +1,6 @@
 // The direct effect of a write to the register at an address.
+#![tactic(auto)]
+
 mod data;
 
 ghost use Rattle.std.specs.Prelude.{◌≡◌, ◌<◌};

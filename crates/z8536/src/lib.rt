@@ -1,12 +1,14 @@
 // The Z8536: a Z8036's record behind four addresses, and a pointer to its registers. The rules over it are in specs/; the event call
 // is in `event_z8536`, save and restore are in `image`.
+#![tactic(auto)]
+
 ghost use Rattle.std.specs.Prelude.{◌≡◌};
 ghost use Rattle.z8536.specs.Z8536.{fresh_z8536, reset_clear, sound_z8536};
 
 use rules::{Answer, Device};
 
 // The device. `core` is the Z8036's record; `pointer` the register pointed to last, and `pointed` that it was set just now.
-#[derive(Drop)]
+#[derive(Clone, Copy)]
 pub struct Z8536 {
     pub core: Device,
     pub pointer: u8,
@@ -30,7 +32,7 @@ impl Z8536 {
 }
 
 // What an event hands back.
-#[derive(Drop)]
+#[derive(Clone, Copy)]
 pub struct OutcomeZ8536 {
     pub device: Z8536,
     pub answer: Answer,
