@@ -1,6 +1,6 @@
 -- A lent buffer: bytes laid into it from a place, all of them, or none where they do not fit.
 -- Assumes nothing.
-use Rattle.std.specs.Prelude.{ℕ, ◌+◌, Bool, cond, List, leb, length}
+use Rattle.std.specs.Prelude.{ℕ, ◌+◌, Bool, List, leb, length}
 use Rattle.std.proofs.Math.Seq.{paste}
 use Rattle.basics.specs.Signs.{if◌then◌else◌}
 

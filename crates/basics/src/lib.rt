@@ -13,6 +13,7 @@ pub fn weight(on: bool, w: u8) -> u8
 }
 
 // The high or the low byte of a word.
+#[tactic(auto, unfolding(crate::specs::Byte::byte_in))]
 pub fn byte_in(high: bool, n: u16) -> u8
     ensures { result ≡ byte_in high n }
 {
@@ -23,6 +24,7 @@ pub fn byte_in(high: bool, n: u16) -> u8
 }
 
 // A word with its high or its low byte written.
+#[tactic(auto, unfolding(crate::specs::Byte::with_byte))]
 pub fn with_byte(high: bool, n: u16, b: u8) -> u16
     ensures { result ≡ with_byte high n b }
 {
