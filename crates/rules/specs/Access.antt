@@ -1,9 +1,7 @@
 -- Paper 01, "Registers": what each kind of register reads, what a read does, and the direct effect (a) of a write.
 -- Assumes nothing.
-use Rattle.std.specs.Prelude.{ℕ, ◌+◌, ◌-◌, ◌/◌, ◌%◌, Bool, true, false, not, ◌&&◌, ◌||◌, cond, List, [], ◌∷◌, eqb, leb}
+use Rattle.std.specs.Prelude.{ℕ, ◌-◌, ◌/◌, Bool, not, ◌&&◌, ◌||◌, [], ◌∷◌}
 use Rattle.rules.specs.declared.Device.{Device}
-use Rattle.rules.specs.declared.Counter.{Counter}
-use Rattle.rules.specs.declared.Port.{Port}
 use Rattle.rules.specs.declared.Pattern.{Pattern}
 use Rattle.rules.specs.declared.Transfer.{Transfer}
 use Rattle.rules.specs.declared.Kind.{Kind}

@@ -1,6 +1,6 @@
 -- Paper 01, "Patterns".
 -- Assumes nothing.
-use Rattle.std.specs.Prelude.{ℕ, ◌/◌, ◌%◌, Bool, true, false, not, ◌&&◌, ◌||◌, cond, eqb}
+use Rattle.std.specs.Prelude.{ℕ, ◌/◌, ◌%◌, Bool, false, not, ◌&&◌, ◌||◌}
 use Rattle.rules.specs.declared.Pattern.{Pattern}
 use Rattle.basics.specs.Signs.{if◌then◌else◌, ◌==◌}
 use Rattle.basics.specs.Byte.{bit, differs, rises, every, any}

@@ -245,6 +245,7 @@ impl Device {
     }
 
     // How long the image of a version is.
+    #[tactic(auto, unfolding(crate::specs::Record::image_len))]
     pub fn image_len(version: u8) -> usize
         ensures { result ≡ image_len version }
     {
