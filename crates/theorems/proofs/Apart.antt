@@ -2,7 +2,7 @@
 -- the step, if so it may after (e) and (f).
 -- Assumes nothing.
 use Prim.Native.Nat.{ℕ, ◌%◌}
-use mathlib.Core.Path.{◌≡◌, refl, ap, ◌∙◌}
+use mathlib.Core.Path.{◌≡◌, ap, ◌∙◌}
 use mathlib.Core.Bool.{Bool, true}
 use mathlib.Core.List.{List, [], ◌∷◌}
 use lib.ListN.{get_or}
@@ -13,7 +13,7 @@ use Rattle.rules.specs.declared.Source.{Source}
 use Rattle.rules.specs.declared.Link.{Link}
 use Rattle.rules.specs.declared.Turned.{Turned}
 use Rattle.rules.specs.declared.Stepped.{Stepped}
-use Rattle.rules.specs.Record.{counter_at, source_at, idle, quiet, of_counter}
+use Rattle.rules.specs.Record.{counter_at, idle, quiet, of_counter}
 use Rattle.rules.specs.With.{with_counter, with_source}
 use Rattle.rules.specs.Registers.{counter_on}
 use Rattle.rules.specs.PortData.{seen_at}

@@ -140,6 +140,7 @@ module _ (m c t : ℕ) (hc : c < m) (ht : t < m) where
       let e : suc k - full_of m c ≡ p * full_of m t + 0 = omega arith in
       let r : (suc k - full_of m c) % full_of m t ≡ 0 = ap (λ (x : ℕ). x % full_of m t) e ∙ digits_mod p (full-pos m t ht) in
       sym (simp (le-leb (full_of m c) (suc k) h, r))
+  last k zero p sum pos b = elim pos [ ]
   last k (suc (suc q)) zero sum pos b =
       let z = zero-mul (full_of m t) in
       let h : suc k < full_of m c = omega arith in

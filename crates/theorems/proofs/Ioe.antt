@@ -39,7 +39,7 @@ ioe-match on q v before after = refl
 
 ioe-hides : (q : Pattern) (v : Bool) → is_priority q ≡ true → hides_by (with_ioe q v) ≡ hides_by q
 unfolding hides_by
-ioe-hides q v h = simp (h, and-false) (and-false v)
+ioe-hides q v h = simp (h, and-false)
 
 module _ (p : ℕ) (v : Bool) where
   -- the record with IOE v at port p

@@ -130,7 +130,7 @@ module _ (d : Device) (i : ℕ) (free : Free d i) where
       ∙ turn-count d.version (counter_at d i) k (lines_at d i) u free.cip free.gcb free.gate free.clocked
 
 -- a link under LC 00
-link-clear : (d : Device) → lc d ≡ 0 → clear (link2 d)
+link-clear : (d : Device) → lc d ≡ 0 → IsClear (link2 d)
 unfolding link_of
 link-clear d e = (simp e, simp e, simp e)
 

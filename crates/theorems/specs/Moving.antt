@@ -2,15 +2,12 @@
 -- timer clock, and "a counter's output reaches another counter only by the link": so each counter with its source is a part of its own,
 -- and each port's PMF with its source is a side of its own.
 -- Assumes nothing.
-use Rattle.std.specs.Prelude.{ℕ, ◌+◌, ◌%◌, ◌<◌, ◌≡◌, Bool, true, false, not, ◌&&◌, ◌||◌, cond, List, [], ◌∷◌, eqb}
+use Rattle.std.specs.Prelude.{ℕ, ◌+◌, ◌%◌, ◌<◌, ◌≡◌, Bool, true, not, ◌&&◌, ◌||◌, [], ◌∷◌}
 use Rattle.basics.specs.Signs.{if◌then◌else◌, ◌==◌}
 use Rattle.basics.specs.Byte.{num}
 use Rattle.rules.specs.declared.Device.{Device}
 use Rattle.rules.specs.declared.Counter.{Counter}
 use Rattle.rules.specs.declared.Counted.{Counted}
-use Rattle.rules.specs.declared.Source.{Source}
-use Rattle.rules.specs.declared.Pattern.{Pattern}
-use Rattle.rules.specs.declared.Fate.{Fate}
 use Rattle.rules.specs.declared.Link.{Link}
 use Rattle.rules.specs.declared.Ran.{Ran}
 use Rattle.rules.specs.Record.{pattern_at, counter_at, source_at, of_port, of_counter}
