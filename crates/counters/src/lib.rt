@@ -45,12 +45,14 @@ fn square(c: Counter) -> bool
 }
 
 // Whether a trigger is taken.
+#[tactic(auto, unfolding(rules::specs::Counters::takes))]
 fn takes_trigger(enabled: bool, c: Counter) -> bool
     ensures { result ≡ takes enabled c }
 {
     enabled & (!c.cip | retrigger(c))
 }
 
+#[tactic(auto, unfolding(rules::specs::Counters::loaded))]
 fn load(c: Counter) -> Counter
     ensures { result ≡ loaded c }
 {
@@ -69,6 +71,7 @@ fn less_one(n: u16) -> u16
 }
 
 // What reaching 0 does.
+#[tactic(auto, unfolding(rules::specs::Counters::terminal_of))]
 fn at_terminal(c: Counter) -> Counter
     ensures { result ≡ terminal_of c }
 {
@@ -89,6 +92,7 @@ fn at_terminal(c: Counter) -> Counter
 }
 
 // One count: the pulse rises with a terminal, in version 2, and falls with any other.
+#[tactic(auto, unfolding(rules::specs::Counters::count_of))]
 fn count(version: u8, c: Counter) -> Counted
     ensures { result ≡ count_of version c }
 {
@@ -110,6 +114,7 @@ fn count(version: u8, c: Counter) -> Counted
     }
 }
 
+#[tactic(auto, unfolding(rules::specs::Counters::pulse_of))]
 fn pulse(version: u8, c: Counter) -> bool
     ensures { result ≡ pulse_of version c }
 {
@@ -119,6 +124,7 @@ fn pulse(version: u8, c: Counter) -> bool
     c.pulse
 }
 
+#[tactic(auto, unfolding(rules::specs::Counters::output_of))]
 pub fn output(version: u8, c: Counter) -> bool
     ensures { result ≡ output_of version c }
 {
@@ -133,6 +139,7 @@ pub fn output(version: u8, c: Counter) -> bool
 }
 
 // The count that reaches a counter in a step.
+#[tactic(auto, unfolding(rules::specs::Counters::reach_of))]
 fn count_source(c: Counter, k: Link, timer: bool, were: u8, are: u8) -> bool
     ensures { result ≡ (reach_of c k timer were are).count }
 {
@@ -146,6 +153,7 @@ fn count_source(c: Counter, k: Link, timer: bool, were: u8, are: u8) -> bool
     timer
 }
 
+#[tactic(auto, unfolding(rules::specs::Counters::reach_of))]
 fn reach(c: Counter, k: Link, timer: bool, were: u8, are: u8) -> Reach
     ensures { result ≡ reach_of c k timer were are }
 {
@@ -160,6 +168,7 @@ fn reach(c: Counter, k: Link, timer: bool, were: u8, are: u8) -> Reach
 }
 
 // A count clock at a counter that it reaches.
+#[tactic(auto, unfolding(rules::specs::Counters::clocked_by))]
 fn clock(version: u8, c: Counter) -> Counted
     ensures { result ≡ clocked_by version c }
 {
@@ -174,6 +183,7 @@ fn clock(version: u8, c: Counter) -> Counted
     }
 }
 
+#[tactic(auto, unfolding(rules::specs::Counters::turn_of, rules::specs::Counters::clocks))]
 fn turn_by(version: u8, enabled: bool, h: Reach, c: Counter) -> Counted
     ensures { result ≡ turn_of version enabled h c }
 {
@@ -208,6 +218,7 @@ pub fn turn(
 }
 
 // Whether a counter's turn leaves it as it is: no trigger that it takes, and no count.
+#[tactic(auto, unfolding(crate::specs::Rests::rests_by, rules::specs::Counters::clocks))]
 pub fn rests(enabled: bool, c: Counter, k: Link, timer: bool, were: u8, are: u8) -> bool
     ensures { result ≡ rests_by enabled (reach_of c k timer were are) c }
 {
@@ -215,6 +226,7 @@ pub fn rests(enabled: bool, c: Counter, k: Link, timer: bool, were: u8, are: u8)
     !(h.trigger & takes_trigger(enabled, c)) & !(enabled & c.gcb & h.gate & h.count)
 }
 
+#[tactic(auto, unfolding(rules::specs::Counters::frozen_by))]
 fn freeze(v: bool, c: Counter) -> Counter
     ensures { result ≡ frozen_by v c }
 {
@@ -227,6 +239,7 @@ fn freeze(v: bool, c: Counter) -> Counter
     e
 }
 
+#[tactic(auto, unfolding(rules::specs::Counters::triggered_by))]
 fn trigger(v: bool, enabled: bool, c: Counter) -> Counter
     ensures { result ≡ triggered_by v enabled c }
 {
@@ -237,6 +250,7 @@ fn trigger(v: bool, enabled: bool, c: Counter) -> Counter
 }
 
 // GCB, RCC and trigger of a written command.
+#[tactic(auto, unfolding(rules::specs::Counters::commanded_by))]
 pub fn command(enabled: bool, b: u8, c: Counter) -> Counter
     ensures { result ≡ commanded_by enabled b c }
 {
