@@ -7,6 +7,7 @@ ghost use Rattle.rules.specs.Registers.{port_kind, kind_of};
 use rules::Kind;
 
 // The kind of the register at r among the eight of Port A or B.
+#[tactic(auto, unfolding(rules::specs::Registers::port_kind))]
 fn port_kind(p: usize, r: usize) -> Kind
     ensures { result ≡ port_kind p r }
 {
@@ -23,6 +24,7 @@ fn port_kind(p: usize, r: usize) -> Kind
 }
 
 // The kind of the register at an address.
+#[tactic(auto, unfolding(rules::specs::Registers::kind_of, rules::specs::Registers::kind_in, rules::specs::Registers::port_kind))]
 pub fn kind_of(address: u32) -> Kind
     ensures { result ≡ kind_of address }
 {
