@@ -9,6 +9,7 @@ ghost use Rattle.rules.specs.Interrupts.{fate_of};
 use rules::{Counter, Fate, Pattern, Source};
 
 // Clears IP: the hidden error comes out.
+#[tactic(auto, unfolding(rules::specs::Registers::ip_cleared))]
 fn clear_ip(s: Source) -> Source
     ensures { result ≡ ip_cleared s }
 {
@@ -44,6 +45,7 @@ fn set_ip(s: Source) -> Source
 }
 
 // A written command, 0 to 7.
+#[tactic(auto, unfolding(rules::specs::Registers::commanded))]
 pub fn command(s: Source, n: u8) -> Source
     ensures { result ≡ commanded s n }
 {
@@ -60,6 +62,7 @@ pub fn command(s: Source, n: u8) -> Source
 }
 
 // IUS, IE, IP, ERR in D7-D4.
+#[tactic(auto, unfolding(rules::specs::Registers::status_of))]
 fn status(s: Source) -> u8
     ensures { (result ≡ status_of s) × (result ≤ 240) }
 {
@@ -85,6 +88,7 @@ pub fn counter_command(s: Source, c: Counter) -> u8
 }
 
 // What becomes of an event that happens at a source, or does not; `hides` says whether it may set the hidden error.
+#[tactic(auto, unfolding(rules::specs::Interrupts::fate_of))]
 pub fn fate(hides: bool, happens: bool, s: Source) -> Fate
     ensures { result ≡ fate_of hides happens s }
 {
