@@ -10,6 +10,7 @@ ghost use Rattle.rules.specs.Handshakes.{inputs, outputs, handshakes, depth, irf
 use rules::{Pattern, Port, Transfer};
 
 // A bit at all eight places: 255 or 0.
+#[tactic(auto, unfolding(basics::specs::Byte::byte_of))]
 pub fn spread(on: bool) -> u8
     ensures { result ≡ byte_of (λ k. on) }
 {
@@ -17,6 +18,7 @@ pub fn spread(on: bool) -> u8
 }
 
 // The bits that have a catcher.
+#[tactic(auto, unfolding(rules::specs::PortData::catches_at))]
 pub fn places(enabled: bool, q: Port) -> u8
     ensures { result ≡ byte_of (catches_at enabled q) }
 {
@@ -24,6 +26,7 @@ pub fn places(enabled: bool, q: Port) -> u8
 }
 
 // The bits that are on.
+#[tactic(auto, unfolding(rules::specs::Patterns::on_at))]
 pub fn on(p: Pattern) -> u8
     ensures { result ≡ byte_of (on_at p) }
 {
@@ -31,6 +34,7 @@ pub fn on(p: Pattern) -> u8
 }
 
 // The bits whose condition holds.
+#[tactic(auto, unfolding(rules::specs::Patterns::hit_at))]
 pub fn hits(p: Pattern, before: u8, after: u8) -> u8
     ensures { result ≡ byte_of (hit_at p before after) }
 {
@@ -40,6 +44,7 @@ pub fn hits(p: Pattern, before: u8, after: u8) -> u8
 }
 
 // The number of the highest bit that is 1, or 0.
+#[tactic(auto, unfolding(rules::specs::Patterns::highest_of))]
 fn highest_bit(b: u8) -> u8
     ensures { result ≡ highest_of (bit b) }
 {
@@ -68,6 +73,7 @@ fn highest_bit(b: u8) -> u8
 }
 
 // The number of the highest bit that matches, or 0.
+#[tactic(auto, unfolding(rules::specs::Patterns::highest_match))]
 pub fn highest(enabled: bool, p: Pattern, seen: u8) -> u8
     ensures { result ≡ highest_match enabled p seen }
 {
@@ -94,6 +100,7 @@ pub fn handshakes(q: Pattern) -> bool
 }
 
 // How many bytes a port with handshake has room for.
+#[tactic(auto, unfolding(rules::specs::Handshakes::depth))]
 pub fn depth(q: Pattern) -> u8
     ensures { result ≡ depth q }
 {
@@ -102,6 +109,7 @@ pub fn depth(q: Pattern) -> u8
 }
 
 // Whether its Input register is full.
+#[tactic(auto, unfolding(rules::specs::Handshakes::irf_of))]
 pub fn irf(q: Pattern, t: Transfer) -> bool
     ensures { result ≡ irf_of q t }
 {
@@ -109,6 +117,7 @@ pub fn irf(q: Pattern, t: Transfer) -> bool
 }
 
 // Whether its Output register is empty.
+#[tactic(auto, unfolding(rules::specs::Handshakes::ore_of))]
 pub fn ore(q: Pattern, t: Transfer) -> bool
     ensures { result ≡ ore_of q t }
 {
@@ -116,6 +125,7 @@ pub fn ore(q: Pattern, t: Transfer) -> bool
 }
 
 // Whether an input port is ready.
+#[tactic(auto, unfolding(rules::specs::Handshakes::ready_of))]
 pub fn ready(enabled: bool, q: Pattern, t: Transfer) -> bool
     ensures { result ≡ ready_of enabled q t }
 {
@@ -123,6 +133,7 @@ pub fn ready(enabled: bool, q: Pattern, t: Transfer) -> bool
 }
 
 // Whether an output port has a byte available, with its ACKIN.
+#[tactic(auto, unfolding(rules::specs::Handshakes::available_of))]
 pub fn available(enabled: bool, q: Pattern, t: Transfer, ackin: bool) -> bool
     ensures { result ≡ available_of enabled q t ackin }
 {
