@@ -8,6 +8,7 @@ ghost use Rattle.rules.specs.Sound.{same_source, same_counter, same_port, same_p
 use rules::{Counter, Device, Lines, Pattern, Port, Source, Transfer};
 
 // What a reset leaves.
+#[tactic(auto, unfolding(rules::specs::Record::reset_of))]
 pub fn reset(d: Device) -> Device
     ensures { result ≡ reset_of d }
 {
@@ -21,12 +22,14 @@ pub fn reset(d: Device) -> Device
     e
 }
 
+#[tactic(auto, unfolding(rules::specs::Sound::same_source))]
 pub fn same_source(s: Source, t: Source) -> bool
     ensures { result ≡ same_source s t }
 {
     (s.ius == t.ius) & (s.ie == t.ie) & (s.ip == t.ip) & (s.err == t.err) & (s.hidden == t.hidden)
 }
 
+#[tactic(auto, unfolding(rules::specs::Sound::same_counter))]
 pub fn same_counter(c: Counter, e: Counter) -> bool
     ensures { result ≡ same_counter c e }
 {
@@ -41,6 +44,7 @@ pub fn same_counter(c: Counter, e: Counter) -> bool
         & (c.pulse == e.pulse)
 }
 
+#[tactic(auto, unfolding(rules::specs::Sound::same_port))]
 fn same_port(q: Port, s: Port) -> bool
     ensures { result ≡ same_port q s }
 {
@@ -52,6 +56,7 @@ fn same_port(q: Port, s: Port) -> bool
         & (q.catcher == s.catcher)
 }
 
+#[tactic(auto, unfolding(rules::specs::Sound::same_pattern))]
 fn same_pattern(q: Pattern, s: Pattern) -> bool
     ensures { result ≡ same_pattern q s }
 {
@@ -64,6 +69,7 @@ fn same_pattern(q: Pattern, s: Pattern) -> bool
         & (q.pmf == s.pmf)
 }
 
+#[tactic(auto, unfolding(rules::specs::Sound::same_transfer))]
 fn same_transfer(t: Transfer, u: Transfer) -> bool
     ensures { result ≡ same_transfer t u }
 {
@@ -83,6 +89,7 @@ fn same_source_at(d: Device, e: Device, k: usize) -> bool
     same_source(s, t)
 }
 
+#[tactic(auto, unfolding(rules::specs::Sound::same_sources))]
 fn same_sources(d: Device, e: Device) -> bool
     ensures { result ≡ same_sources d e }
 {
@@ -102,6 +109,7 @@ fn same_counter_at(d: Device, e: Device, i: usize) -> bool
     same_counter(a, b)
 }
 
+#[tactic(auto, unfolding(rules::specs::Sound::same_counters))]
 fn same_counters(d: Device, e: Device) -> bool
     ensures { result ≡ same_counters d e }
 {
@@ -117,12 +125,14 @@ fn same_port_at(d: Device, e: Device, p: usize) -> bool
     same_port(a, b)
 }
 
+#[tactic(auto, unfolding(rules::specs::Sound::same_ports))]
 fn same_ports(d: Device, e: Device) -> bool
     ensures { result ≡ same_ports d e }
 {
     same_port_at(d, e, 0) & same_port_at(d, e, 1) & same_port_at(d, e, 2)
 }
 
+#[tactic(auto, unfolding(rules::specs::Sound::same_patterns))]
 fn same_patterns(d: Device, e: Device) -> bool
     ensures { result ≡ same_patterns d e }
 {
@@ -133,6 +143,7 @@ fn same_patterns(d: Device, e: Device) -> bool
     same_pattern(a, b) & same_pattern(f, g)
 }
 
+#[tactic(auto, unfolding(rules::specs::Sound::same_transfers))]
 fn same_transfers(d: Device, e: Device) -> bool
     ensures { result ≡ same_transfers d e }
 {
@@ -143,18 +154,21 @@ fn same_transfers(d: Device, e: Device) -> bool
     same_transfer(a, b) & same_transfer(f, g)
 }
 
+#[tactic(auto, unfolding(rules::specs::Sound::same_vectors))]
 fn same_vectors(d: Device, e: Device) -> bool
     ensures { result ≡ same_vectors d e }
 {
     (d.vectors[0] == e.vectors[0]) & (d.vectors[1] == e.vectors[1]) & (d.vectors[2] == e.vectors[2])
 }
 
+#[tactic(auto, unfolding(rules::specs::Sound::same_lines))]
 fn same_lines(l: Lines, m: Lines) -> bool
     ensures { result ≡ same_lines l m }
 {
     (l.int == m.int) & (l.ieo == m.ieo) & (l.place == m.place)
 }
 
+#[tactic(auto, unfolding(rules::specs::Sound::same_of))]
 pub fn same(d: Device, e: Device) -> bool
     ensures { result ≡ same_of d e }
 {
