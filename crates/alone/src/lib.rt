@@ -12,6 +12,7 @@ use rules::{Counter, Fate, Pattern, Source};
 use theorems::Part;
 
 // 0 read as 65,536.
+#[tactic(auto, unfolding(theorems::specs::Free::full_of))]
 fn full(n: u16) -> u32
     ensures { (result ≡ full_of 65536 n) × (0 < result) × (result ≤ 65536) }
 {
@@ -28,6 +29,7 @@ fn is_square(c: Counter) -> bool
 }
 
 // The terminals of k counts of a counter that is always reloaded.
+#[tactic(auto, unfolding(theorems::specs::Alone::reloads_in, theorems::specs::Free::terminals_after))]
 fn reloads(c: Counter, k: u32) -> u32
     ensures { (result ≡ reloads_in c k) × (result ≤ k) }
 {
@@ -40,6 +42,7 @@ fn reloads(c: Counter, k: u32) -> u32
 }
 
 // Which terminal is the last of a counter that is not continuous, and its clock.
+#[tactic(auto, unfolding(theorems::specs::Alone::last_terminal))]
 fn last(c: Counter) -> u32
     ensures { (result ≡ last_terminal c) × (0 < result) × (result ≤ 2) }
 {
@@ -49,18 +52,21 @@ fn last(c: Counter) -> u32
     1
 }
 
+#[tactic(auto, unfolding(theorems::specs::Alone::last_clock))]
 fn last_clock(c: Counter) -> u32
     ensures { result ≡ last_clock c }
 {
     full(c.count) + (last(c) - 1) * full(c.constant)
 }
 
+#[tactic(auto, unfolding(theorems::specs::Alone::stops_by))]
 fn stops(c: Counter, n: u32) -> bool
     ensures { result ≡ stops_by c n }
 {
     !(c.mode / 128 % 2 == 1) & (last(c) <= n)
 }
 
+#[tactic(auto, unfolding(theorems::specs::Alone::half_after))]
 fn half(c: Counter, n: u32) -> bool
     ensures { result ≡ half_after c n }
 {
@@ -71,6 +77,7 @@ fn half(c: Counter, n: u32) -> bool
 }
 
 // Whether clock k was terminal.
+#[tactic(auto, unfolding(theorems::specs::Alone::terminal_at))]
 fn terminal(c: Counter, k: u32) -> bool
     ensures { result ≡ terminal_at c k }
 {
@@ -83,6 +90,7 @@ fn terminal(c: Counter, k: u32) -> bool
 }
 
 // The count after k counts; 65,536 is 0.
+#[tactic(auto, unfolding(theorems::specs::Free::count_after))]
 fn count(c: Counter, k: u32) -> u16
     ensures { result ≡ count_after (full_count c) (full_constant c) k % 65536 }
 {
@@ -94,6 +102,7 @@ fn count(c: Counter, k: u32) -> u16
     ((each - (k - first) % each) % 65536) as u16
 }
 
+#[tactic(auto, unfolding(theorems::specs::Alone::running_after))]
 fn running(version: u8, c: Counter, k: u32) -> Counter
     ensures { result ≡ running_after version c k }
 {
@@ -104,6 +113,7 @@ fn running(version: u8, c: Counter, k: u32) -> Counter
     e
 }
 
+#[tactic(auto, unfolding(theorems::specs::Alone::stopped_after))]
 fn stopped(version: u8, c: Counter, k: u32) -> Counter
     ensures { result ≡ stopped_after version c k }
 {
@@ -115,6 +125,7 @@ fn stopped(version: u8, c: Counter, k: u32) -> Counter
     e
 }
 
+#[tactic(auto, unfolding(theorems::specs::Alone::counter_after))]
 fn counter(version: u8, comes: bool, c: Counter, k: u32) -> Counter
     ensures { result ≡ counter_after version comes c k }
 {
@@ -132,6 +143,7 @@ fn counter(version: u8, comes: bool, c: Counter, k: u32) -> Counter
     running(version, c, k)
 }
 
+#[tactic(auto, unfolding(theorems::specs::Alone::terminals_in))]
 fn terminals(comes: bool, c: Counter, k: u32) -> u32
     ensures { result ≡ terminals_in comes c k }
 {
@@ -146,6 +158,7 @@ fn terminals(comes: bool, c: Counter, k: u32) -> u32
 }
 
 // A source to which an event comes, or does not.
+#[tactic(auto, unfolding(theorems::specs::Alone::struck_by, theorems::specs::Alone::left_by))]
 fn struck(hides: bool, happens: bool, s: Source) -> Source
     ensures { result ≡ struck_by hides happens s }
 {
@@ -165,6 +178,7 @@ fn struck(hides: bool, happens: bool, s: Source) -> Source
 }
 
 // A port's source after a step in which its pattern q matches or not, and did so at the step before, or not.
+#[tactic(auto, unfolding(rules::specs::Patterns::event_by, rules::specs::Patterns::hides_by))]
 pub fn matched(q: Pattern, pmf: bool, matches: bool, s: Source) -> Source
     ensures { result ≡ struck_by (hides_by q) (event_by q pmf matches) s }
 {
@@ -172,6 +186,7 @@ pub fn matched(q: Pattern, pmf: bool, matches: bool, s: Source) -> Source
     struck(q.ioe & !priority, matches & (priority | !pmf), s)
 }
 
+#[tactic(auto, unfolding(theorems::specs::Alone::source_after))]
 fn source(s: Source, n: u32) -> Source
     ensures { result ≡ source_after s n }
 {
@@ -186,6 +201,7 @@ fn source(s: Source, n: u32) -> Source
 }
 
 // Where an event still finds a place.
+#[tactic(auto, unfolding(theorems::specs::Free::free_places))]
 fn places(s: Source) -> u32
     ensures { result ≡ free_places s }
 {
@@ -194,6 +210,7 @@ fn places(s: Source) -> u32
     first + second
 }
 
+#[tactic(auto, unfolding(theorems::specs::Free::lost_after))]
 fn lost(s: Source, n: u32) -> u32
     ensures { result ≡ lost_after s n }
 {
@@ -205,6 +222,7 @@ fn lost(s: Source, n: u32) -> u32
 }
 
 // A counter after n terminals, with its source, which was s.
+#[tactic(auto, unfolding(theorems::specs::Alone::placed_by))]
 pub fn placed(c: Counter, s: Source, n: u32) -> Part
     ensures { result ≡ placed_by c s n }
 {
@@ -218,6 +236,7 @@ pub fn placed(c: Counter, s: Source, n: u32) -> Part
 }
 
 // A counter after k timer clocks, which come to it or do not, with its source.
+#[tactic(auto, unfolding(theorems::specs::Alone::alone_after))]
 pub fn alone(version: u8, comes: bool, c: Counter, s: Source, k: u32) -> Part
     ensures { result ≡ alone_after version comes c s k }
 {
