@@ -1,6 +1,6 @@
 -- Events of a row one after the other, each in the row that the one before it left.
 -- Assumes nothing.
-use Rattle.std.specs.Prelude.{ℕ, List}
+use Rattle.std.specs.Prelude.{List}
 use Rattle.basics.specs.Runs.{Course, record_through, answers_through, course_of, course_cut}
 use Rattle.rules.specs.declared.Device.{Device}
 use Rattle.rows.specs.declared.RowEvent.{RowEvent}
