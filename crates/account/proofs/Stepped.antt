@@ -20,7 +20,7 @@ use Rattle.rules.specs.PortData.{level_of, pins_at, path_at}
 use Rattle.rules.specs.Access.{read_of}
 use Rattle.rules.specs.Moves.{works_at, can_move, falls, moves_at}
 use Rattle.rules.specs.Sound.{sound_of}
-use Rattle.basics.proofs.Tests.{left, each, not_so}
+use Rattle.basics.proofs.Tests.{each, not_so}
 use Rattle.theorems.proofs.Parts.{no-input}
 use Rattle.theorems.proofs.TransferLaws.{two_deep}
 use Rattle.theorems.proofs.Shown.{data-shown}
