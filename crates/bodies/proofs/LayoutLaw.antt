@@ -6,7 +6,7 @@ use mathlib.Core.List.{[], ◌∷◌}
 use Rattle.basics.specs.Signs.{◌==◌}
 use Rattle.rules.specs.declared.Device.{Device}
 use Rattle.rules.specs.Record.{image_len}
-use Rattle.bodies.specs.Layout.{Layout, layout1, layout2, layout3, layout_of, length_of, contents_of}
+use Rattle.bodies.specs.Layout.{layout1, layout2, layout3, layout_of, length_of, contents_of}
 
 -- "byte 01, byte 04, four entries ..: 1, 18, 48; 2, 66, 9; 3, 75, 7; 4, 82, 2"
 pub contents-1 : contents_of layout1 ≡ 0x01 ∷ 0x04 ∷ 1 ∷ 0 ∷ 18 ∷ 48 ∷ 2 ∷ 0 ∷ 66 ∷ 9 ∷ 3 ∷ 0 ∷ 75 ∷ 7 ∷ 4 ∷ 0 ∷ 82 ∷ 2 ∷ []
