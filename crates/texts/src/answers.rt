@@ -9,6 +9,7 @@ use crate::{ROOM, Text, written};
 use rules::{Answer, Report};
 
 // The capital hexadecimal digit of the lower four bits.
+#[tactic(auto, unfolding(crate::specs::Answers::glyph_of))]
 pub fn glyph(n: u8) -> u8
     ensures { result ≡ glyph_of n }
 {
@@ -19,18 +20,21 @@ pub fn glyph(n: u8) -> u8
     b'A' + (d - 10)
 }
 
+#[tactic(auto, unfolding(crate::specs::Kept::typed, crate::specs::Answers::hex_text))]
 fn hex(t: Text, n: u8) -> Text
     ensures { result ≡ typed t (hex_text n) }
 {
     push(push(push(t, b' '), glyph(n / 16)), glyph(n))
 }
 
+#[tactic(auto, unfolding(crate::specs::Kept::typed, crate::specs::Answers::nibble_text))]
 fn nibble(t: Text, n: u8) -> Text
     ensures { result ≡ typed t (nibble_text n) }
 {
     push(push(t, b' '), glyph(n))
 }
 
+#[tactic(auto, unfolding(crate::specs::Kept::typed, crate::specs::Answers::flag_text))]
 fn flag(t: Text, f: bool) -> Text
     ensures { result ≡ typed t (flag_text f) }
 {
@@ -42,6 +46,7 @@ fn flag(t: Text, f: bool) -> Text
 }
 
 // The digit at the place of a power of ten.
+#[tactic(auto, unfolding(crate::specs::Kept::typed, crate::specs::Answers::place_text))]
 fn place(t: Text, p: u32, n: u32) -> Text
     requires { 0 < p }
     ensures { result ≡ typed t (place_text p n) }
@@ -53,6 +58,7 @@ fn place(t: Text, p: u32, n: u32) -> Text
 }
 
 // A number in decimal.
+#[tactic(auto, unfolding(crate::specs::Kept::typed, crate::specs::Answers::decimal_text))]
 pub fn decimal(t: Text, n: u32) -> Text
     ensures { result ≡ typed t (decimal_text n) }
 {
@@ -68,12 +74,14 @@ pub fn decimal(t: Text, n: u32) -> Text
     push(t1, b'0' + (n % 10) as u8)
 }
 
+#[tactic(auto, unfolding(crate::specs::Kept::typed, crate::specs::Answers::count_text))]
 fn count(t: Text, n: u32) -> Text
     ensures { result ≡ typed t (count_text n) }
 {
     decimal(push(t, b' '), n)
 }
 
+#[tactic(auto, unfolding(crate::specs::Answers::counts_text))]
 fn counts(t: Text, n: [u32; 3]) -> Text
     ensures { result ≡ typed t (counts_text n) }
 {
@@ -81,6 +89,7 @@ fn counts(t: Text, n: [u32; 3]) -> Text
 }
 
 // The terminals, and then the lost.
+#[tactic(auto, unfolding(crate::specs::Answers::report_text))]
 fn report(t: Text, r: Report) -> Text
     ensures { result ≡ typed t (report_text r) }
 {
@@ -90,6 +99,7 @@ fn report(t: Text, r: Report) -> Text
 }
 
 // The pins, INT, IEO and the report of an answer, after what t holds.
+#[tactic(auto, unfolding(crate::specs::Answers::levels_text))]
 pub fn levels(t: Text, a: Answer) -> Text
     ensures { result ≡ typed t (levels_text a) }
 {

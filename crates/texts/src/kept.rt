@@ -4,6 +4,7 @@ ghost use Rattle.texts.specs.Kept.{no_text, pushed};
 
 use crate::{ROOM, Text};
 
+#[tactic(auto, unfolding(crate::specs::Kept::no_text))]
 pub fn no_text() -> Text
     ensures { result ≡ no_text }
 {
@@ -14,6 +15,7 @@ pub fn no_text() -> Text
 }
 
 // One byte more.
+#[tactic(auto, unfolding(crate::specs::Kept::pushed))]
 pub fn push(t: Text, b: u8) -> Text
     ensures { result ≡ pushed t b }
 {

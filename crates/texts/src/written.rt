@@ -8,6 +8,7 @@ use crate::answers::glyph;
 use rules::{Answer, Report};
 
 // One byte; the place after it.
+#[tactic(auto, unfolding(crate::specs::Written::written))]
 fn put(out: &mut [u8], at: usize, b: u8) -> usize
     requires { at < length out.old }
     ensures { Wrote 1 out.old at (b ∷ []) out.new result }
@@ -16,6 +17,7 @@ fn put(out: &mut [u8], at: usize, b: u8) -> usize
     at + 1
 }
 
+#[tactic(auto, unfolding(crate::specs::Answers::hex_text))]
 fn hex(out: &mut [u8], at: usize, n: u8) -> usize
     requires { at + 3 ≤ length out.old }
     ensures { Wrote 3 out.old at (hex_text n) out.new result }
@@ -25,6 +27,7 @@ fn hex(out: &mut [u8], at: usize, n: u8) -> usize
     put(out, j, glyph(n))
 }
 
+#[tactic(auto, unfolding(crate::specs::Answers::nibble_text))]
 fn nibble(out: &mut [u8], at: usize, n: u8) -> usize
     requires { at + 2 ≤ length out.old }
     ensures { Wrote 2 out.old at (nibble_text n) out.new result }
@@ -33,6 +36,7 @@ fn nibble(out: &mut [u8], at: usize, n: u8) -> usize
     put(out, i, glyph(n))
 }
 
+#[tactic(auto, unfolding(crate::specs::Answers::flag_text))]
 fn flag(out: &mut [u8], at: usize, f: bool) -> usize
     requires { at + 2 ≤ length out.old }
     ensures { Wrote 2 out.old at (flag_text f) out.new result }
@@ -45,6 +49,7 @@ fn flag(out: &mut [u8], at: usize, f: bool) -> usize
 }
 
 // The digit at the place of a power of ten.
+#[tactic(auto, unfolding(crate::specs::Answers::place_text))]
 fn place(out: &mut [u8], at: usize, p: u32, n: u32) -> usize
     requires { (0 < p) × (at < length out.old) }
     ensures { Wrote 1 out.old at (place_text p n) out.new result }
@@ -56,6 +61,7 @@ fn place(out: &mut [u8], at: usize, p: u32, n: u32) -> usize
 }
 
 // A number of any length.
+#[tactic(auto, unfolding(crate::specs::Answers::decimal_text))]
 fn places(out: &mut [u8], at: usize, n: u32) -> usize
     requires { at + 10 ≤ length out.old }
     ensures { Wrote 10 out.old at (decimal_text n) out.new result }
@@ -83,6 +89,7 @@ fn decimal(out: &mut [u8], at: usize, n: u32) -> usize
     places(out, at, n)
 }
 
+#[tactic(auto, unfolding(crate::specs::Answers::count_text))]
 fn count(out: &mut [u8], at: usize, n: u32) -> usize
     requires { at + 11 ≤ length out.old }
     ensures { Wrote 11 out.old at (count_text n) out.new result }
@@ -91,6 +98,7 @@ fn count(out: &mut [u8], at: usize, n: u32) -> usize
     decimal(out, i, n)
 }
 
+#[tactic(auto, unfolding(crate::specs::Answers::counts_text))]
 fn counts(out: &mut [u8], at: usize, n: [u32; 3]) -> usize
     requires { at + 33 ≤ length out.old }
     ensures { Wrote 33 out.old at (counts_text n) out.new result }
@@ -101,6 +109,7 @@ fn counts(out: &mut [u8], at: usize, n: [u32; 3]) -> usize
 }
 
 // The terminals, and then the lost.
+#[tactic(auto, unfolding(crate::specs::Answers::report_text))]
 fn report(out: &mut [u8], at: usize, r: Report) -> usize
     requires { at + 66 ≤ length out.old }
     ensures { Wrote 66 out.old at (report_text r) out.new result }
@@ -112,6 +121,7 @@ fn report(out: &mut [u8], at: usize, r: Report) -> usize
 }
 
 // The line of an answer, with its line feed.
+#[tactic(auto, unfolding(crate::specs::Answers::answer_text))]
 pub(crate) fn answer(a: Answer, out: &mut [u8], at: usize) -> usize
     requires { at + text_room ≤ length out.old }
     ensures { Wrote 92 out.old at (answer_text a) out.new result }
