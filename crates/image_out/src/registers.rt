@@ -15,6 +15,7 @@ fn port_command(s: Source, q: Pattern, t: Transfer) -> u8
 }
 
 // 08-0C: commands.
+#[tactic(auto, unfolding(bodies::specs::Written::registers_from, bodies::specs::Written::saved_byte, rules::specs::Access::read_of, rules::specs::Registers::kind_of, rules::specs::Registers::kind_in, rules::specs::Registers::port_kind, rules::specs::Access::port_command, rules::specs::Access::counter_command))]
 fn commands(d: Device) -> [u8; 5]
     ensures { result ≡ registers_from d 0x08 5 }
 {
@@ -47,6 +48,7 @@ fn words(a: u16, b: u16, c: u16) -> [u8; 6]
 }
 
 // 00-0F: masters, vectors, Port C's settings, commands, output registers.
+#[tactic(auto, unfolding(bodies::specs::Written::registers_from, bodies::specs::Written::saved_byte, rules::specs::Access::read_of, rules::specs::Registers::kind_of, rules::specs::Registers::kind_in))]
 fn front(d: Device) -> [u8; 16]
     ensures { result ≡ registers_from d 0x00 16 }
 {
@@ -75,6 +77,7 @@ fn front(d: Device) -> [u8; 16]
 }
 
 // 10-1F: frozen counts, constants, counter modes, and 0 for the current vector.
+#[tactic(auto, unfolding(bodies::specs::Written::registers_from, bodies::specs::Written::saved_byte, rules::specs::Access::read_of, rules::specs::Registers::kind_of, rules::specs::Registers::kind_in))]
 fn middle(d: Device) -> [u8; 16]
     ensures { result ≡ registers_from d 0x10 16 }
 {
@@ -89,6 +92,7 @@ fn middle(d: Device) -> [u8; 16]
 }
 
 // 20-2F: Port A's own and B's.
+#[tactic(auto, unfolding(bodies::specs::Written::registers_from, bodies::specs::Written::saved_byte, rules::specs::Access::read_of, rules::specs::Registers::kind_of, rules::specs::Registers::kind_in, rules::specs::Registers::port_kind))]
 fn back(d: Device) -> [u8; 16]
     ensures { result ≡ registers_from d 0x20 16 }
 {
@@ -116,6 +120,7 @@ fn back(d: Device) -> [u8; 16]
     ]
 }
 
+#[tactic(auto, unfolding(bodies::specs::Written::registers_body, bodies::specs::Written::registers_from))]
 pub(crate) fn registers(d: Device) -> [u8; Device::REGISTERS]
     ensures { result ≡ registers_body d }
 {

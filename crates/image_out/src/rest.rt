@@ -20,6 +20,7 @@ fn counter_flags(half: bool, hidden: bool, pulse: bool) -> u8
 }
 
 // Per counter: the count, high first, then its flags.
+#[tactic(auto, unfolding(bodies::specs::Written::counts_body, bodies::specs::Written::flags_of))]
 pub(crate) fn counts(d: Device) -> [u8; 9]
     ensures { result ≡ counts_body d }
 {
@@ -43,6 +44,7 @@ pub(crate) fn counts(d: Device) -> [u8; 9]
 }
 
 // Outside levels, catchers, hidden errors.
+#[tactic(auto, unfolding(bodies::specs::Written::pins_body, bodies::specs::Written::hidden_of))]
 pub(crate) fn pins(d: Device) -> [u8; 7]
     ensures { result ≡ pins_body d }
 {
@@ -63,6 +65,7 @@ pub(crate) fn pins(d: Device) -> [u8; 7]
 }
 
 // IEI and the phase.
+#[tactic(auto, unfolding(bodies::specs::Written::lines_body))]
 pub(crate) fn lines(d: Device) -> [u8; 2]
     ensures { result ≡ lines_body d }
 {
@@ -70,6 +73,7 @@ pub(crate) fn lines(d: Device) -> [u8; 2]
 }
 
 // Per port with handshake: the front byte, the byte behind, how many are held, and two flags.
+#[tactic(auto, unfolding(bodies::specs::Written::transfers_body))]
 pub(crate) fn transfers(d: Device) -> [u8; 8]
     ensures { result ≡ transfers_body d }
 {
