@@ -128,6 +128,7 @@ fn sound_channel(c: Channel) -> bool
 }
 
 // Whether a record is sound.
+#[tactic(auto, unfolding(crate::specs::Sound::sound_ctc))]
 pub fn sound(d: Ctc) -> bool
     ensures { result ≡ sound_ctc d }
 {

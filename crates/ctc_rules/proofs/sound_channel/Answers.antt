@@ -1,3 +1,4 @@
+-- a byte is below 256
 use Prim.Native.Nat.{ℕ, ◌%◌, ◌<◌}
 use mathlib.Core.Bool.{Bool, true, false, not, ◌&&◌, ◌||◌, cond}
 use mathlib.Core.Path.{◌≡◌, refl, sym}
@@ -8,10 +9,8 @@ use Rattle.ctc_rules.specs.declared.Channel.{Channel}
 use Rattle.ctc_rules.specs.Record.{counter_mode, by256, factor_of}
 use Rattle.ctc_rules.specs.Channels.{timer_runs}
 use Rattle.ctc_rules.specs.Sound.{sound_channel, control_bits, runs_loaded, constant_loaded, counter_runs, prescaler_below, prescaler_timed}
-use Rattle.ctc_rules.proofs.sound_channel.Statement.{statement}
-use Rattle.ctc_rules.proofs.sound_channel.Tie as tie
+use Rattle.ctc_rules.proofs.sound_channel.Goals as goal
 
--- a byte is below 256
 below : (b : Bool) (p : ℕ) → p < 256 → (b || ltb p 16) ≡ ltb p (cond b 256 16)
 below true p h = sym (lt-ltb p 256 h)
 below false p h = refl
@@ -39,13 +38,6 @@ module _ (c : Channel) where
   unfolding sound_channel control_bits runs_loaded counter_runs
   whole h = simp (constant, prescaler h, timed)
 
-a_byte : (c : tie.Start) → c.args.c.prescaler < 256
-a_byte c = search rules
-
-returns : tie.Need-returns
+pub returns : goal.returns
 returns c =
-    let at_entry_lem = c.before.before.before.before.before.before.before.before.before.before.before.before in
-    whole at_entry_lem.args.c (a_byte at_entry_lem)
-
-pub sound-channel-spec : {M : Type 1} → statement M
-sound-channel-spec = tie.close (tie.spec returns)
+    whole c.args.c (search rules)
