@@ -6,6 +6,7 @@ ghost use Rattle.phrases.specs.Refusals.{side as side_of, not_whole, refusal, at
 use crate::word;
 use texts::Text;
 
+#[tactic(auto, unfolding(crate::specs::Refusals::side, texts::specs::Spelled::spelled))]
 fn side(whole: u32, n: usize) -> Text
     ensures { result ≡ typed no_text (side_of whole n) }
 {
@@ -16,6 +17,7 @@ fn side(whole: u32, n: usize) -> Text
     word(t, b": refused 7 (under ")
 }
 
+#[tactic(auto, unfolding(crate::specs::Refusals::not_whole, texts::specs::Spelled::spelled))]
 fn not_whole(whole: u32, n: usize) -> Text
     ensures { result ≡ typed no_text (not_whole whole n) }
 {
@@ -24,6 +26,7 @@ fn not_whole(whole: u32, n: usize) -> Text
 }
 
 // Why an image of n bytes that should have so many is refused, by the code of the refusal.
+#[tactic(auto, unfolding(crate::specs::Refusals::refusal, texts::specs::Spelled::spelled))]
 pub fn refusal_line(code: u8, whole: u32, n: usize) -> Text
     ensures { result ≡ typed no_text (refusal code whole n) }
 {
@@ -34,6 +37,7 @@ pub fn refusal_line(code: u8, whole: u32, n: usize) -> Text
     }
 }
 
+#[tactic(auto, unfolding(crate::specs::Refusals::attempt, texts::specs::Spelled::spelled))]
 fn attempt(writing: bool) -> Text
     ensures { result ≡ typed no_text (attempt_of writing) }
 {
@@ -44,6 +48,7 @@ fn attempt(writing: bool) -> Text
     word(t, b": cannot be read: ")
 }
 
+#[tactic(auto, unfolding(crate::specs::Refusals::reason, texts::specs::Spelled::spelled))]
 fn reason(t: Text, why: usize) -> Text
     ensures { result ≡ typed t (reason_of why) }
 {
@@ -58,6 +63,7 @@ fn reason(t: Text, why: usize) -> Text
 }
 
 // Why a file cannot be read or written.
+#[tactic(auto, unfolding(texts::specs::Kept::typed, crate::specs::Refusals::trouble))]
 pub fn trouble_line(writing: bool, why: usize) -> Text
     ensures { result ≡ typed no_text (trouble writing why) }
 {
