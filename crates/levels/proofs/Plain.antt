@@ -9,11 +9,11 @@ use lib.Dec.{eqb}
 use borrow.Author.Tests.{ne_eqb}
 use lib.ListN.{length, get_or, get_or-eq_default}
 use Rattle.rules.specs.declared.Device.{Device}
-use Rattle.rules.specs.Record.{blank, port_at, pattern_at, counter_at}
+use Rattle.rules.specs.Record.{blank, port_at, pattern_at}
 use Rattle.rules.specs.Handshakes.{inputs, outputs, handshakes, is_line}
 use Rattle.rules.specs.declared.Port.{Port}
 use Rattle.rules.specs.PortData.{pin_bit, path_bit, pins_of, path_of, direction_at, special_at, effective_at, standing, lined, value_at}
-use Rattle.basics.specs.Byte.{bit, differs}
+use Rattle.basics.specs.Byte.{bit}
 use Rattle.basics.proofs.Truth.{all6, same}
 use Rattle.basics.proofs.Laws.{byte-of, bit_byte_lem, byte-lt, by_bits}
 use Rattle.levels.specs.Outputs.{with_outputs}

@@ -23,6 +23,7 @@ fn at_lines(a: bool, b: bool) -> u8
 }
 
 // The bits of Port C that are lines.
+#[tactic(auto, unfolding(rules::specs::Handshakes::is_line))]
 fn lines(d: Device) -> u8
     ensures { result ≡ byte_of (is_line d) }
 {
@@ -30,6 +31,7 @@ fn lines(d: Device) -> u8
 }
 
 // Whether port p offers to take a byte, or to give one.
+#[tactic(auto, unfolding(rules::specs::Handshakes::offers_at))]
 pub(crate) fn offers(d: Device, p: usize) -> bool
     requires { p < 2 }
     ensures { result ≡ offers_at d p }
@@ -44,6 +46,7 @@ pub(crate) fn offers(d: Device, p: usize) -> bool
 }
 
 // What the line of port p shows, before polarity.
+#[tactic(auto, unfolding(rules::specs::Handshakes::shown_at))]
 fn shown_at(d: Device, p: usize) -> bool
     requires { p < 2 }
     ensures { result ≡ shown_at d p }
@@ -55,6 +58,7 @@ fn shown_at(d: Device, p: usize) -> bool
 }
 
 // The byte x of Port C with what ports A and B show in its place: of the lines the odd bits.
+#[tactic(auto, unfolding(rules::specs::PortData::lined, rules::specs::Handshakes::is_line))]
 fn with_shown(d: Device, x: u8) -> u8
     ensures { result ≡ lined d x }
 {
@@ -73,6 +77,7 @@ pub(crate) fn shown(d: Device, x: u8) -> u8
 }
 
 // Port p with the direction and the special register that are in effect.
+#[tactic(auto, unfolding(rules::specs::PortData::direction_at, rules::specs::PortData::special_at))]
 pub(crate) fn effective(d: Device, p: usize) -> Port
     ensures { result ≡ effective_at d p }
 {

@@ -15,6 +15,7 @@ ghost use Rattle.levels.specs.Looks.{looks_of};
 use rules::{Device, Port};
 
 // Whether a configuration enables port p.
+#[tactic(auto, unfolding(rules::specs::Registers::port_on))]
 pub fn port_on(config: u8, p: usize) -> bool
     ensures { result ≡ port_on config p }
 {
@@ -34,6 +35,7 @@ pub fn port_enabled(d: Device, p: usize) -> bool
 }
 
 // Whether a configuration enables counter i.
+#[tactic(auto, unfolding(rules::specs::Registers::counter_on))]
 pub fn counter_on(config: u8, i: usize) -> bool
     ensures { result ≡ counter_on config i }
 {
@@ -93,6 +95,7 @@ fn handshakes_at(d: Device, p: usize) -> bool
 }
 
 // The path value of the ACKIN of port p; past A and B, of B's.
+#[tactic(auto, unfolding(rules::specs::Handshakes::ackin_at))]
 pub fn ackin_at(d: Device, p: usize) -> bool
     ensures { result ≡ ackin_at d p }
 {
@@ -143,6 +146,7 @@ pub fn direction_at(d: Device, p: usize) -> u8
 }
 
 // The byte x of port p with the outputs of the counters that stand for its bits.
+#[tactic(auto, unfolding(crate::specs::Outputs::with_outputs))]
 fn with_outputs(d: Device, p: usize, x: u8) -> u8
     ensures { result ≡ with_outputs d p x }
 {
@@ -159,6 +163,7 @@ fn with_outputs(d: Device, p: usize, x: u8) -> u8
 }
 
 // The value that port p puts out.
+#[tactic(auto, unfolding(rules::specs::PortData::value_at, crate::specs::Outputs::with_outputs))]
 fn value_at(d: Device, p: usize) -> u8
     ensures { result ≡ value_at d p }
 {
@@ -192,6 +197,7 @@ fn handshake_face(d: Device, p: usize) -> Face
     }
 }
 
+#[tactic(auto, unfolding(rules::specs::PortData::pins_at))]
 pub fn pins_at(d: Device, p: usize) -> u8
     ensures { result ≡ pins_at d p }
 {
@@ -206,6 +212,7 @@ pub fn pins_at(d: Device, p: usize) -> u8
 }
 
 // Where no port has a handshake: the path value of port p, whose input's pin shows the outside level.
+#[tactic(auto, unfolding(rules::specs::PortData::path_at, rules::specs::PortData::pins_at))]
 fn own_path(d: Device, p: usize) -> u8
     requires { (handshakes (pattern_at d 0) || handshakes (pattern_at d 1)) ≡ false }
     ensures { result ≡ path_at d p }
@@ -214,6 +221,7 @@ fn own_path(d: Device, p: usize) -> u8
     port::path(q, q.outside, with_outputs(d, p, q.output))
 }
 
+#[tactic(auto, unfolding(rules::specs::PortData::path_at, rules::specs::PortData::pins_at))]
 pub fn path_at(d: Device, p: usize) -> u8
     ensures { result ≡ path_at d p }
 {
@@ -226,6 +234,7 @@ pub fn path_at(d: Device, p: usize) -> u8
     own_path(d, p)
 }
 
+#[tactic(auto, unfolding(rules::specs::PortData::seen_at))]
 pub fn seen_at(d: Device, p: usize) -> u8
     ensures { result ≡ seen_at d p }
 {
@@ -243,6 +252,7 @@ pub struct Looks {
 }
 
 // Where no port has a handshake: what port p, with that path value, sees.
+#[tactic(auto, unfolding(rules::specs::PortData::seen_at))]
 fn own_seen(d: Device, p: usize, path: u8) -> u8
     requires { ((handshakes (pattern_at d 0) || handshakes (pattern_at d 1)) ≡ false) × (path ≡ path_at d p) }
     ensures { result ≡ seen_at d p }
@@ -286,6 +296,7 @@ pub fn look(d: Device) -> Looks
     own_looks(d)
 }
 
+#[tactic(auto, unfolding(rules::specs::PortData::data_at))]
 pub fn data_at(d: Device, p: usize) -> u8
     ensures { result ≡ data_at d p }
 {

@@ -6,6 +6,7 @@ ghost use Rattle.rules.specs.PortData.{pins_of, path_of, seen_of, level_of, stan
 
 use rules::{Counter, Port};
 
+#[tactic(auto, unfolding(rules::specs::PortData::pins_of))]
 pub(crate) fn pins(enabled: bool, q: Port, value: u8) -> u8
     ensures { result ≡ pins_of enabled q value }
 {
@@ -14,12 +15,14 @@ pub(crate) fn pins(enabled: bool, q: Port, value: u8) -> u8
     (level & driven) | (q.outside & (driven ^ 255))
 }
 
+#[tactic(auto, unfolding(rules::specs::PortData::path_of))]
 pub(crate) fn path(q: Port, pins: u8, value: u8) -> u8
     ensures { result ≡ path_of q pins value }
 {
     ((pins ^ q.polarity) & q.direction) | (value & (q.direction ^ 255))
 }
 
+#[tactic(auto, unfolding(rules::specs::PortData::seen_of))]
 pub(crate) fn seen(enabled: bool, q: Port, path: u8) -> u8
     ensures { result ≡ seen_of enabled q path }
 {
@@ -27,6 +30,7 @@ pub(crate) fn seen(enabled: bool, q: Port, path: u8) -> u8
     (q.catcher & m) | (path & (m ^ 255))
 }
 
+#[tactic(auto, unfolding(rules::specs::PortData::level_of))]
 pub(crate) fn level(q: Port, pins: u8) -> u8
     ensures { result ≡ level_of q pins }
 {
@@ -40,6 +44,7 @@ fn output_enabled(c: Counter) -> bool
 }
 
 // D4 or D0 alone.
+#[tactic(auto, unfolding(basics::specs::Byte::byte_of))]
 fn place(high: bool) -> u8
     ensures { result ≡ byte_of (λ j. eqb j (cond high 4 0)) }
 {
