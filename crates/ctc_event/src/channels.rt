@@ -23,6 +23,7 @@ fn less_one(n: u8) -> u8
     std::num::wrapping_sub_u8(n, 1)
 }
 
+#[tactic(auto, unfolding(ctc_rules::specs::Channels::count_channel))]
 fn count(c: Channel) -> Zeroed
     ensures { result ≡ count_channel c }
 {
@@ -53,6 +54,7 @@ fn start(c: Channel) -> Channel
     e
 }
 
+#[tactic(auto, unfolding(ctc_rules::specs::Channels::edge_channel))]
 fn edge(c: Channel) -> Channel
     ensures { result ≡ edge_channel c }
 {
@@ -69,6 +71,7 @@ fn edge(c: Channel) -> Channel
     start(c)
 }
 
+#[tactic(auto, unfolding(ctc_rules::specs::Channels::active_edge))]
 fn is_active(c: Channel, before: bool, after: bool) -> bool
     ensures { result ≡ active_edge c before after }
 {
@@ -79,6 +82,7 @@ fn is_active(c: Channel, before: bool, after: bool) -> bool
 }
 
 // A trigger level before and after.
+#[tactic(auto, unfolding(ctc_rules::specs::Channels::level_channel))]
 pub(crate) fn level(c: Channel, before: bool, after: bool) -> Channel
     ensures { result ≡ level_channel c before after }
 {
@@ -109,6 +113,7 @@ fn soft_reset(c: Channel) -> Channel
     e
 }
 
+#[tactic(auto, unfolding(ctc_rules::specs::Channels::goes_on))]
 fn go_on(c: Channel) -> Channel
     ensures { result ≡ goes_on c }
 {
@@ -125,6 +130,7 @@ fn go_on(c: Channel) -> Channel
     e
 }
 
+#[tactic(auto, unfolding(ctc_rules::specs::Channels::control_word))]
 pub(crate) fn control(c: Channel, b: u8) -> Channel
     ensures { result ≡ control_word c b }
 {
@@ -149,6 +155,7 @@ fn keep_constant(c: Channel, b: u8) -> Channel
     e
 }
 
+#[tactic(auto, unfolding(ctc_rules::specs::Channels::constant_word))]
 pub(crate) fn constant(c: Channel, b: u8) -> Channel
     ensures { result ≡ constant_word c b }
 {
@@ -165,6 +172,7 @@ pub(crate) fn constant(c: Channel, b: u8) -> Channel
 
 // ---- clocks
 // 0 read as 256.
+#[tactic(auto, unfolding(theorems::specs::Free::full_of))]
 fn full(n: u8) -> u32
     ensures { (result ≡ full_of 256 n) × (0 < result) × (result ≤ 256) }
 {
@@ -175,6 +183,7 @@ fn full(n: u8) -> u32
 }
 
 // The zero counts of k counts.
+#[tactic(auto, unfolding(ctc_laws::specs::Divided::zeros_in, theorems::specs::Free::terminals_after))]
 fn zeros(c: Channel, k: u32) -> u32
     ensures { result ≡ zeros_in c k }
 {
@@ -187,6 +196,7 @@ fn zeros(c: Channel, k: u32) -> u32
 }
 
 // The down-counter after them; 256 is 0.
+#[tactic(auto, unfolding(ctc_laws::specs::Divided::down_after, theorems::specs::Free::count_after))]
 fn down(c: Channel, k: u32) -> u8
     ensures { result ≡ down_after c k }
 {
@@ -198,6 +208,7 @@ fn down(c: Channel, k: u32) -> u8
     ((each - (k - first) % each) % 256) as u8
 }
 
+#[tactic(auto, unfolding(ctc_rules::specs::Record::factor_of))]
 fn factor(c: Channel) -> u64
     ensures { (result ≡ factor_of c) × (16 ≤ result) × (result ≤ 256) }
 {
@@ -207,6 +218,7 @@ fn factor(c: Channel) -> u64
     16
 }
 
+#[tactic(auto, unfolding(ctc_rules::specs::Channels::timer_runs))]
 fn timer_runs(c: Channel) -> bool
     ensures { result ≡ timer_runs c }
 {
@@ -214,6 +226,7 @@ fn timer_runs(c: Channel) -> bool
 }
 
 // A timer that runs, after n clocks.
+#[tactic(auto, unfolding(ctc_laws::specs::Divided::timer_after, ctc_laws::specs::Divided::timer_counts))]
 fn timer(c: Channel, n: u32) -> ChannelRan
     ensures { result ≡ timer_after c n (timer_counts c n) }
 {

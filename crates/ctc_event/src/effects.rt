@@ -24,6 +24,7 @@ pub(crate) fn plain(d: Ctc, v: u8) -> CtcEffect
     }
 }
 
+#[tactic(auto, unfolding(ctc_rules::specs::Record::reset_ctc))]
 fn reset(d: Ctc) -> Ctc
     ensures { result ≡ reset_ctc d }
 {
@@ -33,6 +34,7 @@ fn reset(d: Ctc) -> Ctc
     e
 }
 
+#[tactic(auto, unfolding(ctc_rules::specs::Events::written_ctc))]
 fn write(d: Ctc, i: usize, b: u8) -> Ctc
     requires { i < 4 }
     ensures { result ≡ written_ctc d i b }
@@ -65,6 +67,7 @@ fn level_at(d: Ctc, i: usize, a: u8) -> Channel
     )
 }
 
+#[tactic(auto, unfolding(ctc_rules::specs::Events::levels_ctc))]
 fn levels(d: Ctc, a: u8) -> Ctc
     ensures { result ≡ levels_ctc d a }
 {
@@ -102,6 +105,7 @@ fn run(n: u32, d: Ctc) -> CtcRan
     }
 }
 
+#[tactic(auto, unfolding(ctc_rules::specs::Events::clocks_ctc))]
 fn clocks(d: Ctc, n: u32) -> CtcEffect
     requires { sound_ctc d ≡ true }
     ensures { result ≡ clocks_ctc d n }
@@ -125,6 +129,7 @@ fn with_iei(d: Ctc, v: u32) -> CtcEffect
 }
 
 // What an accepted event does.
+#[tactic(auto, unfolding(ctc_rules::specs::Events::effect_ctc))]
 pub(crate) fn effect_of(d: Ctc, e: Event) -> CtcEffect
     requires { code_ctc d e ≡ 0 }
     ensures { result ≡ effect_ctc d e }

@@ -12,12 +12,14 @@ ghost use Rattle.ctc_rules.specs.Events.{no_channel, too_large_ctc, code_ctc, ou
 use ctc_rules::{Ctc, CtcAnswer, CtcEffect, CtcOutcome};
 use rules::{Event, Lines};
 
+#[tactic(auto, unfolding(ctc_rules::specs::Events::no_channel))]
 fn has_no_channel(e: Event) -> bool
     ensures { result ≡ no_channel e }
 {
     ((e.kind == Event::W) | (e.kind == Event::R)) & (3 < e.a)
 }
 
+#[tactic(auto, unfolding(ctc_rules::specs::Events::too_large_ctc))]
 fn is_too_large(e: Event) -> bool
     ensures { result ≡ too_large_ctc e }
 {
@@ -27,6 +29,7 @@ fn is_too_large(e: Event) -> bool
 }
 
 // The code of an event, in the order of the refusals.
+#[tactic(auto, unfolding(ctc_rules::specs::Events::code_ctc, rules::specs::Events::unknown))]
 fn code_of(d: Ctc, e: Event) -> u8
     ensures { result ≡ code_ctc d e }
 {
@@ -66,6 +69,7 @@ fn unsound(d: Ctc) -> CtcOutcome
 }
 
 // An answer with the lines after the event.
+#[tactic(auto, unfolding(ctc_rules::specs::Events::outcome_ctc, ctc_rules::specs::Interrupts::int_ctc))]
 fn outcome(code: u8, f: CtcEffect) -> CtcOutcome
     ensures { result ≡ outcome_ctc code f }
 {
@@ -85,6 +89,7 @@ fn outcome(code: u8, f: CtcEffect) -> CtcOutcome
 }
 
 // Any record and any event, to an answer beside the record.
+#[tactic(auto, unfolding(ctc_rules::specs::Events::event_ctc))]
 pub fn event(d: Ctc, e: Event) -> CtcOutcome
     ensures { result ≡ event_ctc d e }
 {
@@ -99,6 +104,7 @@ pub fn event(d: Ctc, e: Event) -> CtcOutcome
 }
 
 // The end of service of the highest channel in service, if there is one.
+#[tactic(auto, unfolding(ctc_rules::specs::Events::end_of_service))]
 pub fn end_of_service(d: Ctc) -> CtcOutcome
     ensures { result ≡ end_of_service d }
 {
@@ -109,6 +115,7 @@ pub fn end_of_service(d: Ctc) -> CtcOutcome
 }
 
 // INT, IEO and the highest requester's place, without an event.
+#[tactic(auto, unfolding(ctc_rules::specs::Interrupts::lines_ctc, ctc_rules::specs::Interrupts::int_ctc))]
 pub fn lines(d: Ctc) -> Lines
     ensures { result ≡ lines_ctc d }
 {

@@ -9,6 +9,7 @@ use ctc_rules::{Channel, Ctc};
 pub(crate) const NONE: usize = 4;
 
 // The first of four tests that passes, or NONE.
+#[tactic(auto, unfolding(ctc_rules::specs::Interrupts::first_test))]
 fn first(a: bool, b: bool, c: bool, d: bool) -> usize
     ensures { (result ≡ first_test a b c d) × (result ≤ 4) }
 {
@@ -34,6 +35,7 @@ pub(crate) fn channel_at(d: Ctc, i: usize) -> Channel
     d.channels[i]
 }
 
+#[tactic(auto, unfolding(ctc_rules::specs::Interrupts::pending_at))]
 fn pending_at(d: Ctc, i: usize) -> bool
     requires { i < 4 }
     ensures { result ≡ pending_at d i }
@@ -43,6 +45,7 @@ fn pending_at(d: Ctc, i: usize) -> bool
 }
 
 // The highest with a request pending, or NONE.
+#[tactic(auto, unfolding(ctc_rules::specs::Interrupts::first_four))]
 fn pending(d: Ctc) -> usize
     ensures { (result ≡ first_four (pending_at d)) × (result ≤ 4) }
 {
@@ -55,6 +58,7 @@ fn pending(d: Ctc) -> usize
 }
 
 // The highest in service, or NONE.
+#[tactic(auto, unfolding(ctc_rules::specs::Interrupts::serving_ctc, ctc_rules::specs::Interrupts::first_four))]
 fn serving(d: Ctc) -> usize
     ensures { (result ≡ serving_ctc d) × (result ≤ 4) }
 {
@@ -66,6 +70,7 @@ fn serving(d: Ctc) -> usize
     )
 }
 
+#[tactic(auto, unfolding(ctc_rules::specs::Interrupts::requests_at))]
 fn requests_at(d: Ctc, i: usize) -> bool
     requires { i < 4 }
     ensures { result ≡ requests_at d i }
@@ -74,6 +79,7 @@ fn requests_at(d: Ctc, i: usize) -> bool
 }
 
 // The highest requester, or NONE.
+#[tactic(auto, unfolding(ctc_rules::specs::Interrupts::requester_ctc, ctc_rules::specs::Interrupts::first_four))]
 pub(crate) fn requester(d: Ctc) -> usize
     ensures { (result ≡ requester_ctc d) × (result ≤ 4) }
 {
@@ -85,6 +91,7 @@ pub(crate) fn requester(d: Ctc) -> usize
     )
 }
 
+#[tactic(auto, unfolding(ctc_rules::specs::Interrupts::ieo_ctc))]
 pub(crate) fn ieo(d: Ctc) -> bool
     ensures { result ≡ ieo_ctc d }
 {
@@ -92,6 +99,7 @@ pub(crate) fn ieo(d: Ctc) -> bool
 }
 
 // The place of the highest requester in order, 1 to 4, or 0.
+#[tactic(auto, unfolding(ctc_rules::specs::Interrupts::place_ctc))]
 pub(crate) fn place(d: Ctc) -> u8
     ensures { result ≡ place_ctc d }
 {
@@ -103,6 +111,7 @@ pub(crate) fn place(d: Ctc) -> u8
 }
 
 // The record after an acknowledge: as it was where none requests.
+#[tactic(auto, unfolding(ctc_rules::specs::Interrupts::acknowledged_ctc))]
 pub(crate) fn acknowledged(d: Ctc) -> Ctc
     ensures { result ≡ acknowledged_ctc d }
 {
@@ -119,6 +128,7 @@ pub(crate) fn acknowledged(d: Ctc) -> Ctc
 }
 
 // The vector of the highest requester.
+#[tactic(auto, unfolding(ctc_rules::specs::Interrupts::vector_ctc))]
 pub(crate) fn vector(d: Ctc) -> u8
     ensures { result ≡ vector_ctc d }
 {
@@ -130,6 +140,7 @@ pub(crate) fn vector(d: Ctc) -> u8
 }
 
 // The record after the end of service: as it was where none is in service.
+#[tactic(auto, unfolding(ctc_rules::specs::Interrupts::released_ctc))]
 pub(crate) fn released(d: Ctc) -> Ctc
     ensures { result ≡ released_ctc d }
 {

@@ -16,6 +16,7 @@ fn said(kind: u32, a: u32, b: u32, c: u32) -> Line
 }
 
 // The value of a digit, `0` to `9` and `A` to `F`; 16 of any other byte.
+#[tactic(auto, unfolding(crate::specs::Lines::digit_of))]
 pub fn digit(b: u8) -> u32
     ensures { (result ≡ digit_of b) × (result ≤ 16) }
 {
@@ -29,6 +30,7 @@ pub fn digit(b: u8) -> u32
 }
 
 // The number of a space and two digits, from a place on.
+#[tactic(auto, unfolding(crate::specs::Lines::number_of))]
 fn number(s: &[u8], at: usize) -> u32
     requires { at + 2 < length s.now }
     ensures { result ≡ number_of (get_or s.now at 0) (get_or s.now (at + 1) 0) (get_or s.now (at + 2) 0) }
@@ -41,6 +43,7 @@ fn number(s: &[u8], at: usize) -> u32
     256
 }
 
+#[tactic(auto, unfolding(crate::specs::Lines::said_by))]
 fn bare(letter: u8) -> Line
     ensures { result ≡ said_by letter [] }
 {
@@ -53,6 +56,7 @@ fn bare(letter: u8) -> Line
     Line::Unreadable
 }
 
+#[tactic(auto, unfolding(crate::specs::Lines::said_by))]
 fn with_one(letter: u8, a: u32) -> Line
     ensures { result ≡ said_by letter (a ∷ []) }
 {
@@ -141,6 +145,7 @@ fn clocks(s: &[u8]) -> Line
 }
 
 // What a line of these bytes says, its line feed not among them.
+#[tactic(auto, unfolding(crate::specs::Lines::line_of))]
 fn meaning(s: &[u8]) -> Line
     ensures { result ≡ line_of s.now }
 {
@@ -165,6 +170,7 @@ fn meaning(s: &[u8]) -> Line
 }
 
 // What a line says that is kept; one that found no room is too long as well.
+#[tactic(auto, unfolding(crate::specs::Lines::says_of, texts::specs::Kept::bytes_of, texts::specs::Kept::kept_len, crate::specs::Lines::line_of, crate::specs::Lines::words_of))]
 fn says(t: Text) -> Line
     ensures { result ≡ says_of t }
 {
