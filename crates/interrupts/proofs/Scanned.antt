@@ -1,9 +1,9 @@
 -- The highest requester, found from the highest source down.
 -- Assumes nothing.
 use Prim.Native.Nat.{ℕ}
-use mathlib.Core.Path.{◌≡◌, refl}
+use mathlib.Core.Path.{◌≡◌}
 use mathlib.Core.Bool.{Bool, true, false, not, ◌&&◌, ◌||◌, cond}
-use lib.Dec.{T, eqb, eqb→eq}
+use lib.Dec.{eqb, eqb→eq}
 use Rattle.rules.specs.declared.Device.{Device}
 use Rattle.rules.specs.Record.{source_at}
 use Rattle.rules.specs.Registers.{mie}

@@ -19,6 +19,7 @@ fn mie(d: Device) -> bool
 }
 
 // The highest requester, or 5, where the master bits let sources request.
+#[tactic(auto, unfolding(crate::specs::Order::first_unserved))]
 fn first_unserved(d: Device) -> usize
     ensures { (result ≡ first_unserved d) × (result ≤ 5) }
 {
@@ -40,6 +41,7 @@ pub fn requester_of(d: Device) -> usize
 }
 
 // The place of the highest requester: 1 to 5, or 0.
+#[tactic(auto, unfolding(rules::specs::Interrupts::place_of))]
 fn place(d: Device) -> u8
     ensures { (result ≡ place_of d) × (result ≤ 5) }
 {
@@ -50,6 +52,7 @@ fn place(d: Device) -> u8
     1 + (k as u8)
 }
 
+#[tactic(auto, unfolding(rules::specs::Interrupts::ieo_of))]
 fn ieo(d: Device) -> bool
     ensures { result ≡ ieo_of d }
 {
@@ -58,6 +61,7 @@ fn ieo(d: Device) -> bool
 }
 
 // INT, IEO and the place, worked out: some source requests where there is a place.
+#[tactic(auto, unfolding(rules::specs::Interrupts::lines_of))]
 pub fn lines(d: Device) -> Lines
     ensures { result ≡ lines_of d }
 {
@@ -70,6 +74,7 @@ pub fn lines(d: Device) -> Lines
 }
 
 // The record with its lines worked out.
+#[tactic(auto, unfolding(rules::specs::Interrupts::relined))]
 pub fn relined(d: Device) -> Device
     ensures { result ≡ relined d }
 {
@@ -79,6 +84,7 @@ pub fn relined(d: Device) -> Device
 }
 
 // The value of an acknowledge.
+#[tactic(auto, unfolding(rules::specs::Interrupts::acknowledge))]
 pub fn acknowledge(d: Device) -> u8
     ensures { result ≡ acknowledge d }
 {
@@ -91,6 +97,7 @@ pub fn acknowledge(d: Device) -> u8
 }
 
 // The record after an acknowledge: as it was where none requests.
+#[tactic(auto, unfolding(rules::specs::Interrupts::acknowledged))]
 pub fn acknowledged(d: Device) -> Device
     ensures { result ≡ acknowledged d }
 {
@@ -104,6 +111,7 @@ pub fn acknowledged(d: Device) -> Device
 }
 
 // The highest with IP and IE, or 5.
+#[tactic(auto, unfolding(rules::specs::Interrupts::first))]
 fn pending_first(d: Device) -> usize
     ensures { (result ≡ first (pending d)) × (result ≤ 5) }
 {
@@ -117,6 +125,7 @@ fn pending_first(d: Device) -> usize
 }
 
 // The highest counter with IP and IE, or 5.
+#[tactic(auto, unfolding(rules::specs::Interrupts::pending_counter))]
 fn pending_counter(d: Device) -> usize
     ensures { (result ≡ pending_counter d) × (result ≤ 5) }
 {
@@ -130,6 +139,7 @@ fn pending_counter(d: Device) -> usize
 }
 
 // What a vector register reads.
+#[tactic(auto, unfolding(rules::specs::Interrupts::vector_read))]
 pub fn vector_read(d: Device, v: usize) -> u8
     ensures { result ≡ vector_read d v }
 {
@@ -151,6 +161,7 @@ pub fn vector_read(d: Device, v: usize) -> u8
 }
 
 // What 1FH reads.
+#[tactic(auto, unfolding(rules::specs::Interrupts::current_vector))]
 pub fn current_vector(d: Device) -> u8
     ensures { result ≡ current_vector d }
 {

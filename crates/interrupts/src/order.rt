@@ -10,6 +10,7 @@ use rules::{Device, Source};
 pub(crate) const NONE: usize = 5;
 
 // The first of five that holds, in the order of the sources, or NONE.
+#[tactic(auto, unfolding(rules::specs::Interrupts::first_of))]
 pub(crate) fn first(ct3: bool, a: bool, ct2: bool, b: bool, ct1: bool) -> usize
     ensures { (result ≡ first_of ct3 a ct2 b ct1) × (result ≤ 5) }
 {
@@ -32,6 +33,7 @@ pub(crate) fn first(ct3: bool, a: bool, ct2: bool, b: bool, ct1: bool) -> usize
 }
 
 // Of source k and those below it, of which `rest` is the first: none where it is served, itself where it waits.
+#[tactic(auto, unfolding(crate::specs::Order::unserved))]
 pub(crate) fn unserved(s: Source, k: usize, rest: usize) -> usize
     requires { (k ≤ 5) × (rest ≤ 5) }
     ensures { (result ≡ unserved s k rest) × (result ≤ 5) }
@@ -53,6 +55,7 @@ pub(crate) fn source_at(d: Device, k: usize) -> Source
 }
 
 // Whether a source from the highest down to source k has IUS.
+#[tactic(auto, unfolding(rules::specs::Interrupts::served))]
 pub(crate) fn served_at(d: Device, k: usize) -> bool
     requires { k < 5 }
     ensures { result ≡ served d k }
@@ -66,6 +69,7 @@ pub(crate) fn served_at(d: Device, k: usize) -> bool
     any
 }
 
+#[tactic(auto, unfolding(rules::specs::Interrupts::pending))]
 pub(crate) fn pending_at(d: Device, k: usize) -> bool
     requires { k < 5 }
     ensures { result ≡ pending d k }

@@ -8,6 +8,7 @@ use crate::order;
 use rules::{Device, Source};
 
 // The vector register of source k: 0 A, 1 B, 2 CT.
+#[tactic(auto, unfolding(rules::specs::Interrupts::vector_of))]
 fn vector_of(k: usize) -> usize
     ensures { (result ≡ vector_of k) × (result < 3) }
 {
@@ -21,6 +22,7 @@ fn vector_of(k: usize) -> usize
 }
 
 // A counter's vector with status; n is 0 for CT3, 1 for CT2, 2 for CT1.
+#[tactic(auto, unfolding(rules::specs::Interrupts::counter_status))]
 fn counter_vector(base: u8, n: usize, err: bool) -> u8
     ensures { result ≡ counter_status base n err }
 {
@@ -31,6 +33,7 @@ fn counter_vector(base: u8, n: usize, err: bool) -> u8
 }
 
 // A port's vector with status.
+#[tactic(auto, unfolding(rules::specs::Interrupts::port_status))]
 fn port_vector(base: u8, ore: bool, irf: bool, pmf: bool, err: bool) -> u8
     ensures { result ≡ port_status base ore irf pmf err }
 {
@@ -65,6 +68,7 @@ fn ore_at(d: Device, p: usize) -> bool
     ports::ore(d.patterns[p], d.transfers[p])
 }
 
+#[tactic(auto, unfolding(rules::specs::Interrupts::highest_at))]
 fn highest_at(d: Device, p: usize) -> u8
     requires { p < 2 }
     ensures { result ≡ highest_at d p }
@@ -74,6 +78,7 @@ fn highest_at(d: Device, p: usize) -> u8
 }
 
 // A port's vector with the number of its highest matching bit.
+#[tactic(auto, unfolding(rules::specs::Interrupts::priority_status))]
 fn priority_vector(base: u8, n: u8) -> u8
     requires { n < 8 }
     ensures { result ≡ priority_status base n }
@@ -82,6 +87,7 @@ fn priority_vector(base: u8, n: u8) -> u8
 }
 
 // The vector of port p with status.
+#[tactic(auto, unfolding(rules::specs::Interrupts::highest_at, rules::specs::Patterns::highest_match, rules::specs::Interrupts::port_vector))]
 fn port_status(d: Device, p: usize, base: u8, err: bool) -> u8
     requires { p < 2 }
     ensures { result ≡ port_vector d p base err }
@@ -94,6 +100,7 @@ fn port_status(d: Device, p: usize, base: u8, err: bool) -> u8
 }
 
 // The vector of source k with status. Ports have the odd places.
+#[tactic(auto, unfolding(rules::specs::Interrupts::with_status))]
 pub(crate) fn with_status(d: Device, k: usize) -> u8
     requires { k < 5 }
     ensures { result ≡ with_status d k }
@@ -108,6 +115,7 @@ pub(crate) fn with_status(d: Device, k: usize) -> u8
 }
 
 // The vector of source k, with status if its VIS says so.
+#[tactic(auto, unfolding(rules::specs::Interrupts::vector_for, rules::specs::Registers::vis))]
 pub(crate) fn vector_for(d: Device, k: usize) -> u8
     requires { k < 5 }
     ensures { result ≡ vector_for d k }

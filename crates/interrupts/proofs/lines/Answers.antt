@@ -1,3 +1,4 @@
+-- the place is 0 where none requests, and nowhere else
 use Prim.Native.Nat.{ℕ, ◌+◌}
 use mathlib.Core.Bool.{Bool, true, false, not, cond}
 use mathlib.Core.Path.{◌≡◌, refl}
@@ -6,11 +7,8 @@ use native.Mathlib.Omega.{arith}
 use borrow.Author.Tests.{ne_eqb}
 use Rattle.rules.specs.declared.Device.{Device}
 use Rattle.rules.specs.Interrupts.{requester, int_of, place_of, lines_of}
-use borrow.Author.Rules.{rules}
-use Rattle.interrupts.proofs.lines.Statement.{statement}
-use Rattle.interrupts.proofs.lines.Tie as tie
+use Rattle.interrupts.proofs.lines.Goals as goal
 
--- the place is 0 where none requests, and nowhere else
 zero-where : (none : Bool) (k : ℕ) → not (eqb (cond none 0 (1 + k)) 0) ≡ not none
 zero-where true k = refl
 zero-where false k = simp (ne_eqb (1 + k) 0 (λ e. omega arith))
@@ -19,15 +17,6 @@ requested : (d : Device) → not (eqb (place_of d) 0) ≡ int_of d
 unfolding place_of int_of
 requested d = zero-where (eqb (requester d) 5) (requester d)
 
-place-requires : tie.Need-place-requires
-place-requires c κs = search rules
-
-ieo-requires : tie.Need-ieo-requires
-ieo-requires c κs = search rules
-
-returns : tie.Need-returns
+pub returns : goal.returns
 unfolding lines_of
-returns c = simp (c.before.place.ensures.0, c.ieo.ensures, requested)
-
-pub lines-spec : {M : Type 1} → statement M
-lines-spec = tie.close (tie.spec place-requires ieo-requires returns)
+returns c = simp (c.place-n.ensures.0, c.ieo.ensures, requested)
