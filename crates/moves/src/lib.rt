@@ -30,6 +30,7 @@ fn is_strobed(q: Pattern) -> bool
 }
 
 // The bytes held with b behind them.
+#[tactic(auto, unfolding(rules::specs::Moves::joined))]
 fn join(b: u8, t: Transfer, unfinished: bool, pair: bool) -> Transfer
     ensures { result ≡ joined b t unfinished pair }
 {
@@ -52,6 +53,7 @@ fn join(b: u8, t: Transfer, unfinished: bool, pair: bool) -> Transfer
 }
 
 // Without the front byte: the byte behind moves up.
+#[tactic(auto, unfolding(rules::specs::Moves::shifted))]
 fn shift(t: Transfer, unfinished: bool, pair: bool) -> Transfer
     ensures { result ≡ shifted t unfinished pair }
 {
@@ -65,6 +67,7 @@ fn shift(t: Transfer, unfinished: bool, pair: bool) -> Transfer
 }
 
 // What port p holds, and its source.
+#[tactic(auto, unfolding(rules::specs::Moves::held_at))]
 fn hold(d: Device, p: usize, t: Transfer, s: Source) -> Device
     requires { p < 2 }
     ensures { result ≡ held_at d p t s }
@@ -77,6 +80,7 @@ fn hold(d: Device, p: usize, t: Transfer, s: Source) -> Device
 }
 
 // A byte to the pins of port p, where `goes` says so.
+#[tactic(auto, unfolding(rules::specs::Moves::put_at))]
 fn put_if(goes: bool, d: Device, p: usize, b: u8) -> Device
     requires { p < 2 }
     ensures { result ≡ (if goes then put_at d p b else d) }
@@ -89,6 +93,7 @@ fn put_if(goes: bool, d: Device, p: usize, b: u8) -> Device
 }
 
 // What a move makes of IP.
+#[tactic(auto, unfolding(rules::specs::Moves::asked_if))]
 fn ask_if(asks: bool, s: Source) -> Source
     ensures { result ≡ asked_if asks s }
 {
@@ -99,6 +104,7 @@ fn ask_if(asks: bool, s: Source) -> Source
 }
 
 // Whether the handshake of port p is at work.
+#[tactic(auto, unfolding(rules::specs::Moves::works_at))]
 fn works_at(d: Device, p: usize) -> bool
     requires { p < 2 }
     ensures { result ≡ works_at d p }
@@ -107,6 +113,7 @@ fn works_at(d: Device, p: usize) -> bool
 }
 
 // Whether there is room for a byte, or a byte to leave.
+#[tactic(auto, unfolding(rules::specs::Moves::can_move))]
 fn can_move(q: Pattern, t: Transfer) -> bool
     ensures { result ≡ can_move q t }
 {
@@ -117,6 +124,7 @@ fn can_move(q: Pattern, t: Transfer) -> bool
 }
 
 // Whether ACKIN falls while the port offers to move a byte, from the record d0 before the step to d after its direct effect.
+#[tactic(auto, unfolding(rules::specs::Moves::falls))]
 fn falls_at(d0: Device, d: Device, p: usize) -> bool
     requires { p < 2 }
     ensures { result ≡ falls d0 d p }
@@ -129,6 +137,7 @@ fn falls_at(d0: Device, d: Device, p: usize) -> bool
 }
 
 // Whether the byte that comes to those held asks for an interrupt, and the byte that leaves them.
+#[tactic(auto, unfolding(rules::specs::Moves::asks_in))]
 fn asks_in(q: Pattern, t: Transfer) -> bool
     ensures { result ≡ asks_in q t }
 {
@@ -138,6 +147,7 @@ fn asks_in(q: Pattern, t: Transfer) -> bool
     t.bytes == 0
 }
 
+#[tactic(auto, unfolding(rules::specs::Moves::asks_out))]
 fn asks_out(q: Pattern, t: Transfer) -> bool
     ensures { result ≡ asks_out q t }
 {
@@ -148,6 +158,7 @@ fn asks_out(q: Pattern, t: Transfer) -> bool
 }
 
 // The byte at the pins is taken.
+#[tactic(auto, unfolding(rules::specs::Moves::taken_at))]
 fn take(d: Device, p: usize) -> Device
     requires { p < 2 }
     ensures { result ≡ taken_at d p }
@@ -160,6 +171,7 @@ fn take(d: Device, p: usize) -> Device
 }
 
 // The byte at the pins leaves; the byte behind moves up to them.
+#[tactic(auto, unfolding(rules::specs::Moves::left_at))]
 fn leave(d: Device, p: usize) -> Device
     requires { p < 2 }
     ensures { result ≡ left_at d p }
@@ -182,6 +194,7 @@ fn finish(d: Device, p: usize) -> Device
     e
 }
 
+#[tactic(auto, unfolding(rules::specs::Moves::moves_at))]
 fn moves_at(p: usize, d0: Device, d: Device) -> Device
     requires { p < 2 }
     ensures { result ≡ moves_at p d0 d }
@@ -199,6 +212,7 @@ fn moves_at(p: usize, d0: Device, d: Device) -> Device
 }
 
 // The moves of both ports, from the record before the step and the one after its direct effect.
+#[tactic(auto, unfolding(rules::specs::Moves::moves_of))]
 pub fn moves(d0: Device, d1: Device) -> Device
     ensures { result ≡ moves_of d0 d1 }
 {
@@ -209,6 +223,7 @@ pub fn moves(d0: Device, d1: Device) -> Device
 }
 
 // What a read or a write makes of IP: cleared, as by command 5, but at the first of a pair.
+#[tactic(auto, unfolding(rules::specs::Moves::served_by, rules::specs::Registers::commanded))]
 fn serve(q: Pattern, t: Transfer, s: Source) -> Source
     ensures { result ≡ served_by q t s }
 {
@@ -219,12 +234,14 @@ fn serve(q: Pattern, t: Transfer, s: Source) -> Source
 }
 
 // Whether it leaves a pair half done.
+#[tactic(auto, unfolding(rules::specs::Moves::pair_by))]
 fn halves(q: Pattern, t: Transfer, s: Source) -> bool
     ensures { result ≡ pair_by q t s }
 {
     has_itb(q) & s.ip & !t.pair
 }
 
+#[tactic(auto, unfolding(rules::specs::Moves::given_at))]
 fn given_at(d: Device, p: usize) -> Device
     requires { p < 2 }
     ensures { result ≡ given_at d p }
@@ -238,6 +255,7 @@ fn given_at(d: Device, p: usize) -> Device
 }
 
 // The record after a read of the data of port p; past the two ports as it was.
+#[tactic(auto, unfolding(rules::specs::Moves::given_at, rules::specs::Moves::held_at))]
 pub fn given(d: Device, p: usize) -> Device
     ensures { result ≡ given_at d p }
 {
@@ -247,6 +265,7 @@ pub fn given(d: Device, p: usize) -> Device
     d
 }
 
+#[tactic(auto, unfolding(rules::specs::Moves::stored_at))]
 fn stored_at(d: Device, p: usize, b: u8) -> Device
     requires { p < 2 }
     ensures { result ≡ stored_at d p b }
