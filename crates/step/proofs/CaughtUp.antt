@@ -3,15 +3,14 @@
 use Prim.Native.Nat.{ℕ}
 use mathlib.Core.Path.{◌≡◌, sym, ap, ◌∙◌}
 use mathlib.Core.Bool.{true}
-use mathlib.Core.List.{List, [], ◌∷◌}
+use mathlib.Core.List.{[], ◌∷◌}
 use lib.ListN.{length}
 use borrow.Author.Tests.{eqb-true}
 use Rattle.rules.specs.declared.Device.{Device}
-use Rattle.rules.specs.declared.Port.{Port}
 use Rattle.rules.specs.With.{with_catcher, with_ports}
 use Rattle.rules.specs.Record.{bare, port_at}
 use Rattle.rules.specs.Step.{caught_at, catchers}
-use Rattle.step.specs.Still.{same_catchers, has_caught}
+use Rattle.step.specs.Still.{has_caught}
 use Rattle.basics.proofs.Lists.{three}
 use Rattle.basics.proofs.Tests.{triple}
 

@@ -1,6 +1,6 @@
 -- Whether nothing moves in a step that is no timer clock: then it leaves the record as (a) left it.
 -- Assumes nothing.
-use Rattle.std.specs.Prelude.{ℕ, Bool, false, not, ◌&&◌, eqb}
+use Rattle.std.specs.Prelude.{ℕ, Bool, false, not, ◌&&◌}
 use Rattle.std.specs.Bool.{beq}
 use Rattle.basics.specs.Signs.{◌==◌}
 use Rattle.rules.specs.declared.Device.{Device}

@@ -30,6 +30,7 @@ struct Turn {
 }
 
 // Whether an event came, and whether it was lost.
+#[tactic(auto, unfolding(rules::specs::Interrupts::came))]
 fn came(f: Fate) -> bool
     ensures { result ≡ came f }
 {
@@ -41,6 +42,7 @@ fn came(f: Fate) -> bool
     }
 }
 
+#[tactic(auto, unfolding(rules::specs::Interrupts::was_lost))]
 fn was_lost(f: Fate) -> bool
     ensures { result ≡ was_lost f }
 {
@@ -53,6 +55,7 @@ fn was_lost(f: Fate) -> bool
 }
 
 // A source after what became of its event.
+#[tactic(auto, unfolding(theorems::specs::Alone::left_by))]
 fn after_fate(s: Source, f: Fate) -> Source
     ensures { result ≡ left_by f s }
 {
@@ -72,6 +75,7 @@ fn after_fate(s: Source, f: Fate) -> Source
 }
 
 // The four lines of counter i, as D0 to D3.
+#[tactic(auto, unfolding(rules::specs::Step::lines_at))]
 pub fn lines_at(d: Device, i: usize) -> u8
     ensures { result ≡ lines_at d i }
 {
@@ -85,6 +89,7 @@ pub fn lines_at(d: Device, i: usize) -> u8
 }
 
 // The turn of a counter and its source; its lines were and are, before the step and after (a).
+#[tactic(auto, unfolding(crate::specs::Parts::turn_by))]
 fn turn_of(
     version: u8,
     enabled: bool,
@@ -109,6 +114,7 @@ fn turn_of(
 }
 
 // That of counter i of the device d.
+#[tactic(auto, unfolding(crate::specs::Parts::turn_at))]
 fn counter_turn(k: Link, timer: bool, were: u8, are: u8, i: usize, d: Device) -> Turn
     requires { i < 3 }
     ensures { result ≡ turn_at k timer were are i d }
@@ -128,6 +134,7 @@ fn counter_turn(k: Link, timer: bool, were: u8, are: u8, i: usize, d: Device) ->
 }
 
 // What LC makes of CT1's output before the step and after (b).
+#[tactic(auto, unfolding(rules::specs::Counters::link_of))]
 pub fn link(lc: u8, before: bool, after: bool) -> Link
     ensures { result ≡ link_of lc before after }
 {
@@ -154,6 +161,7 @@ fn ct1_output(version: u8, d: Device) -> bool
     counters::output(version, d.counters[0])
 }
 
+#[tactic(auto, unfolding(rules::specs::PortData::caught_of))]
 fn caught(enabled: bool, q: Port, path: u8) -> u8
     ensures { result ≡ caught_of enabled q path }
 {
@@ -179,6 +187,7 @@ fn caught_ports(d: Device) -> [Port; 3]
 }
 
 // The catchers of all ports.
+#[tactic(auto, unfolding(rules::specs::Step::catchers))]
 pub fn catch_all(d: Device) -> Device
     ensures { result ≡ catchers d }
 {
@@ -189,6 +198,7 @@ pub fn catch_all(d: Device) -> Device
 }
 
 // Whether the pattern p of a port matches, by what it saw before and after.
+#[tactic(auto, unfolding(rules::specs::Patterns::match_of))]
 pub fn matches(enabled: bool, p: Pattern, before: u8, after: u8) -> bool
     ensures { result ≡ match_of enabled p before after }
 {
@@ -200,6 +210,7 @@ pub fn matches(enabled: bool, p: Pattern, before: u8, after: u8) -> bool
 }
 
 // The turn of a port's pattern q and of its source, by what it saw before and after.
+#[tactic(auto, unfolding(crate::specs::Parts::pattern_by, rules::specs::Patterns::event_by, rules::specs::Patterns::hides_by))]
 fn side_of(enabled: bool, q: Pattern, before: u8, after: u8, s: Source) -> Side
     ensures { result ≡ pattern_by enabled q before after s }
 {
@@ -214,6 +225,7 @@ fn side_of(enabled: bool, q: Pattern, before: u8, after: u8, s: Source) -> Side
 }
 
 // That of port p of the device d.
+#[tactic(auto, unfolding(crate::specs::Parts::pattern_after))]
 fn pattern_turn(p: usize, before: u8, after: u8, d: Device) -> Side
     requires { p < 2 }
     ensures { result ≡ pattern_after p before after d }

@@ -4,6 +4,7 @@ ghost use Rattle.rules.specs.Patterns.{and_match, or_match};
 
 use rules::Pattern;
 
+#[tactic(auto, unfolding(rules::specs::Patterns::and_match))]
 pub(crate) fn and_match(p: Pattern, before: u8, after: u8) -> bool
     ensures { result ≡ and_match p before after }
 {
@@ -12,6 +13,7 @@ pub(crate) fn and_match(p: Pattern, before: u8, after: u8) -> bool
     (o != 0) & (o & (h ^ 255) == 0)
 }
 
+#[tactic(auto, unfolding(rules::specs::Patterns::or_match))]
 pub(crate) fn or_match(p: Pattern, before: u8, after: u8) -> bool
     ensures { result ≡ or_match p before after }
 {

@@ -18,6 +18,7 @@ fn same_catchers(e: Device, d: Device) -> bool
 }
 
 // Whether the catchers have caught what there is to catch.
+#[tactic(auto, unfolding(crate::specs::Still::has_caught))]
 pub fn has_caught(d: Device) -> bool
     ensures { result ≡ has_caught d }
 {
@@ -25,6 +26,7 @@ pub fn has_caught(d: Device) -> bool
 }
 
 // Whether a match is that of the last step, and no event comes of it.
+#[tactic(auto, unfolding(crate::specs::Still::stands_by, rules::specs::Patterns::event_by))]
 fn stands(q: Pattern, matches: bool) -> bool
     ensures { result ≡ stands_by q matches }
 {
@@ -33,6 +35,7 @@ fn stands(q: Pattern, matches: bool) -> bool
 }
 
 // Whether no counter's turn does anything; w and n are the looks of the two records.
+#[tactic(auto, unfolding(crate::specs::Still::counters_rest, crate::specs::Still::rests_at, rules::specs::Step::lines_at))]
 fn counters_rest(d0: Device, d1: Device, w: Looks, n: Looks) -> bool
     requires { (w ≡ looks_of d0) × (n ≡ looks_of d1) }
     ensures { result ≡ counters_rest d0 d1 }
@@ -52,6 +55,7 @@ fn counters_rest(d0: Device, d1: Device, w: Looks, n: Looks) -> bool
 }
 
 // Whether nothing moves after (a).
+#[tactic(auto, unfolding(crate::specs::Still::still, crate::specs::Still::stands_at))]
 fn is_still(d0: Device, d1: Device, w: Looks, n: Looks) -> bool
     requires { (w ≡ looks_of d0) × (n ≡ looks_of d1) }
     ensures { result ≡ still d0 d1 }

@@ -1,3 +1,4 @@
+-- the catchers by the outside levels
 use Rattle.rules.specs.Record.{port_at}
 use Prim.Native.Nat.{ℕ}
 use mathlib.Core.Path.{◌≡◌, sym, ap, ap₂, ◌∙◌}
@@ -10,11 +11,8 @@ use Rattle.rules.specs.With.{with_catcher}
 use Rattle.rules.specs.PortData.{effective_at, value_at, pins_at, path_at, caught_of}
 use Rattle.rules.specs.Step.{caught_at}
 use Rattle.levels.proofs.Catching.{caught-outside}
-use borrow.Author.Rules.{rules}
-use Rattle.step.proofs.caught_at.Statement.{statement}
-use Rattle.step.proofs.caught_at.Tie as tie
+use Rattle.step.proofs.caught_at.Goals as goal
 
--- the catchers by the outside levels
 caught-here : (d : Device) (p x : ℕ) (e : Bool) (r : Port) → e ≡ port_enabled d p → r ≡ effective_at d p → x ≡ caught_of e r (bit_xor r.outside r.polarity)
     → with_catcher (port_at d p) x ≡ caught_at d p
 unfolding caught_at path_at pins_at
@@ -24,31 +22,5 @@ caught-here d p x e r f g h =
     ∙ ap₂ (λ (b : Bool) (q : Port). caught_of b q (bit_xor q.outside q.polarity)) f g
     ∙ sym (caught-outside (port_enabled d p) (effective_at d p) (value_at d p)))
 
-mul-q : tie.Need-overflow-mul-q
-mul-q c = search rules
-
-element-copy-out-q : tie.Need-element-copy-out-q
-element-copy-out-q c = search rules
-
-effective-at-requires : tie.Need-effective-at-requires
-effective-at-requires c κs = search rules
-
-port-on-requires : tie.Need-port-on-requires
-port-on-requires c κs = search rules
-
-caught-requires : tie.Need-caught-requires
-caught-requires c κs = search rules
-
-returns : tie.Need-returns
-returns c = caught-here _ _ _ _ _ c.before.before.port-on.ensures c.before.before.before.effective-at.ensures c.caught.ensures
-
-pub caught-at-spec : {M : Type 1} → statement M
-caught-at-spec =
-    tie.close
-    (tie.spec
-    mul-q
-    element-copy-out-q
-    effective-at-requires
-    port-on-requires
-    caught-requires
-    returns)
+pub returns : goal.returns
+returns c = caught-here _ _ _ _ _ c.port_on.ensures c.effective_at-r.ensures c.caught.ensures
