@@ -11,6 +11,7 @@ ghost use Rattle.registers.specs.Place.{place, places};
 
 use rules::{Counter, Device, Kind, Source};
 
+#[tactic(auto, unfolding(rules::specs::Access::port_command))]
 fn port_command(d: Device, p: usize) -> u8
     requires { p < 2 }
     ensures { result ≡ port_command d p }
@@ -21,6 +22,7 @@ fn port_command(d: Device, p: usize) -> u8
     sources::port_command(d.sources[k], q, ports::ore(q, t), ports::irf(q, t))
 }
 
+#[tactic(auto, unfolding(rules::specs::Access::counter_command))]
 fn counter_command(d: Device, i: usize) -> u8
     requires { i < 3 }
     ensures { result ≡ counter_command d i }
@@ -30,6 +32,7 @@ fn counter_command(d: Device, i: usize) -> u8
 }
 
 // The count as it reads.
+#[tactic(auto, unfolding(rules::specs::Counters::shown))]
 fn show(c: Counter) -> u16
     ensures { result ≡ shown c }
 {
@@ -39,6 +42,7 @@ fn show(c: Counter) -> u16
     c.count
 }
 
+#[tactic(auto, unfolding(rules::specs::Access::read_of))]
 fn read_kind(d: Device, k: Kind) -> u8
     requires { place k < places k }
     ensures { result ≡ read_of d k }
@@ -74,6 +78,7 @@ pub fn read(d: Device, address: u32) -> u8
 }
 
 // What the read of a low byte leaves of counter i.
+#[tactic(auto, unfolding(rules::specs::Counters::thawed))]
 fn thaw(d: Device, i: usize) -> Device
     requires { i < 3 }
     ensures { result ≡ with_counter d i (thawed (counter_at d i)) }
@@ -87,6 +92,7 @@ fn thaw(d: Device, i: usize) -> Device
 }
 
 // Whether the read is of the data of an input port with handshake.
+#[tactic(auto, unfolding(rules::specs::Access::reads_byte))]
 fn reads_byte(d: Device, address: u32) -> bool
     ensures { result ≡ reads_byte d address }
 {
@@ -97,6 +103,7 @@ fn reads_byte(d: Device, address: u32) -> bool
 }
 
 // The record after a read.
+#[tactic(auto, unfolding(rules::specs::Access::after_read))]
 pub fn after_read(d: Device, address: u32) -> Device
     ensures { result ≡ after_read d address }
 {
