@@ -10,12 +10,14 @@ use crate::settings;
 use crate::soundness::sound;
 use rules::{Device, Event};
 
+#[tactic(auto, unfolding(rules::specs::Events::unknown))]
 fn is_unknown(e: Event) -> bool
     ensures { result ≡ unknown e }
 {
     6 < e.kind
 }
 
+#[tactic(auto, unfolding(rules::specs::Events::no_register))]
 fn has_no_register(e: Event) -> bool
     ensures { result ≡ no_register e }
 {
@@ -23,6 +25,7 @@ fn has_no_register(e: Event) -> bool
     ((e.kind == Event::W) | (e.kind == Event::R)) & (Device::REGISTERS <= a)
 }
 
+#[tactic(auto, unfolding(rules::specs::Events::too_large))]
 fn is_too_large(e: Event) -> bool
     ensures { result ≡ too_large e }
 {
@@ -31,12 +34,14 @@ fn is_too_large(e: Event) -> bool
         | ((e.kind == Event::E) & (1 < e.a))
 }
 
+#[tactic(auto, unfolding(rules::specs::Events::held))]
 fn is_held(d: Device, e: Event) -> bool
     ensures { result ≡ held d e }
 {
     d.reset() & (e.kind == Event::W) & !(e.a == 0x00)
 }
 
+#[tactic(auto, unfolding(rules::specs::Registers::read_only))]
 fn is_read_only(e: Event) -> bool
     ensures { result ≡ (is_w e && read_only e.a) }
 {
@@ -93,6 +98,7 @@ fn or_else(refused: bool, code: u8, rest: u8) -> u8
 }
 
 // "Order: 9, 1, 2, 5, reset hold, 3, 4, 6.", 11 after 3, 10 after 11, from the last to the first but one: of a record that is known to be sound.
+#[tactic(auto, unfolding(crate::specs::Known::known_code))]
 fn any_code(d: Device, e: Event) -> u8
     ensures { result ≡ known_code d e }
 {
@@ -108,6 +114,7 @@ fn any_code(d: Device, e: Event) -> u8
 }
 
 // The same of a W, to which 1, 11 and 6 cannot come.
+#[tactic(auto, unfolding(crate::specs::Known::known_code, rules::specs::Events::unknown, rules::specs::Events::no_byte))]
 fn write_code(d: Device, e: Event) -> u8
     requires { e.kind ≡ 1 }
     ensures { result ≡ known_code d e }
@@ -131,6 +138,7 @@ pub fn known_code(d: Device, e: Event) -> u8
 }
 
 // And with the first.
+#[tactic(auto, unfolding(rules::specs::Events::code_of, crate::specs::Known::known_code))]
 pub fn code_of(d: Device, e: Event) -> u8
     ensures { result ≡ code_of d e }
 {

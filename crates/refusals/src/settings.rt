@@ -12,6 +12,7 @@ fn last_type(version: u8) -> u32
     if version == 1 { 0 } else { 2 }
 }
 
+#[tactic(auto, unfolding(rules::specs::Registers::later_port_mode))]
 pub(crate) fn later_port_mode(version: u8, b: u32) -> bool
     ensures { result ≡ later_port_mode version b }
 {
@@ -19,6 +20,7 @@ pub(crate) fn later_port_mode(version: u8, b: u32) -> bool
 }
 
 // Whether the registers of a port with handshake hold a setting left to later requests together.
+#[tactic(auto, unfolding(rules::specs::Registers::later_handshake))]
 pub(crate) fn later_handshake(m: u32, h: u32) -> bool
     ensures { result ≡ later_handshake m h }
 {
@@ -28,24 +30,28 @@ pub(crate) fn later_handshake(m: u32, h: u32) -> bool
 }
 
 // Whether the registers of a bit port hold OR with priority-encoded vector, and a transition.
+#[tactic(auto, unfolding(rules::specs::Registers::later_priority))]
 pub(crate) fn later_priority(m: u32, t: u32) -> bool
     ensures { result ≡ later_priority m t }
 {
     (m / 64 == 0) & (m / 2 % 4 == 3) & !(t == 0)
 }
 
+#[tactic(auto, unfolding(rules::specs::Registers::later_config))]
 pub(crate) fn later_config(b: u32) -> bool
     ensures { result ≡ later_config b }
 {
     b / 8 % 2 == 1
 }
 
+#[tactic(auto, unfolding(rules::specs::Registers::later_counter_mode))]
 pub(crate) fn later_counter_mode(b: u32) -> bool
     ensures { result ≡ later_counter_mode b }
 {
     b % 4 == 3
 }
 
+#[tactic(auto, unfolding(rules::specs::Registers::port_of))]
 fn port_of(a: u32) -> usize
     ensures { (result ≡ port_of a) × (result < 2) }
 {
@@ -53,6 +59,7 @@ fn port_of(a: u32) -> usize
 }
 
 // Whether the byte b is a setting left to later requests at the address a of the device.
+#[tactic(auto, unfolding(rules::specs::Registers::later))]
 pub(crate) fn later(d: Device, a: u32, b: u32) -> bool
     ensures { result ≡ later d a b }
 {

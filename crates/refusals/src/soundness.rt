@@ -8,6 +8,7 @@ ghost use Rattle.rules.specs.Sound.{reset_only, sound_sources, sound_counters, s
 use crate::settings;
 use rules::{Counter, Device, Pattern, Port, Source, Transfer};
 
+#[tactic(auto, unfolding(rules::specs::Sound::sound_source, rules::specs::Sound::err_only, rules::specs::Sound::hidden_only))]
 fn sound_source(s: Source) -> bool
     ensures { result ≡ sound_source s }
 {
@@ -22,6 +23,7 @@ fn sound_source_at(d: Device, k: usize) -> bool
     sound_source(s)
 }
 
+#[tactic(auto, unfolding(rules::specs::Sound::sound_sources))]
 fn sound_sources(d: Device) -> bool
     ensures { result ≡ sound_sources d }
 {
@@ -47,12 +49,14 @@ fn sound_counter_at(d: Device, i: usize) -> bool
     sound_counter(d.version, levels::counter_on(d.config, i), c)
 }
 
+#[tactic(auto, unfolding(rules::specs::Sound::sound_counters))]
 fn sound_counters(d: Device) -> bool
     ensures { result ≡ sound_counters d }
 {
     sound_counter_at(d, 0) & sound_counter_at(d, 1) & sound_counter_at(d, 2)
 }
 
+#[tactic(auto, unfolding(rules::specs::Sound::four_bits))]
 fn four_bits(q: Port) -> bool
     ensures { result ≡ four_bits q }
 {
@@ -65,6 +69,7 @@ fn four_bits(q: Port) -> bool
 }
 
 // A catcher only where a bit has one, and set where the path value is 1.
+#[tactic(auto, unfolding(rules::specs::Sound::sound_port, rules::specs::Sound::catcher_only, rules::specs::Sound::catcher_set))]
 fn sound_port(enabled: bool, q: Port, path: u8) -> bool
     ensures { result ≡ sound_port enabled q path }
 {
@@ -73,6 +78,7 @@ fn sound_port(enabled: bool, q: Port, path: u8) -> bool
 }
 
 // PMF only in an enabled port with a pattern, one of AND and the two ORs, and a bit on.
+#[tactic(auto, unfolding(rules::specs::Sound::pmf_only))]
 fn pmf_only(enabled: bool, p: Pattern) -> bool
     ensures { result ≡ pmf_only enabled p }
 {
@@ -83,6 +89,7 @@ fn pmf_only(enabled: bool, p: Pattern) -> bool
 }
 
 // A catcher is at an input, whose path value is the outside level XOR polarity.
+#[tactic(auto, unfolding(rules::specs::Sound::sound_port_at, rules::specs::PortData::path_at, rules::specs::PortData::pins_at))]
 fn sound_port_at(d: Device, p: usize) -> bool
     requires { p < 3 }
     ensures { result ≡ sound_port_at d p }
@@ -91,6 +98,7 @@ fn sound_port_at(d: Device, p: usize) -> bool
     sound_port(levels::port_enabled(d, p), q, q.outside ^ q.polarity)
 }
 
+#[tactic(auto, unfolding(rules::specs::Sound::sound_ports))]
 fn sound_ports(d: Device) -> bool
     ensures { result ≡ sound_ports d }
 {
@@ -98,6 +106,7 @@ fn sound_ports(d: Device) -> bool
     four_bits(c) & sound_port_at(d, 0) & sound_port_at(d, 1) & sound_port_at(d, 2)
 }
 
+#[tactic(auto, unfolding(rules::specs::Sound::sound_patterns))]
 fn sound_patterns(d: Device) -> bool
     ensures { result ≡ sound_patterns d }
 {
@@ -114,6 +123,7 @@ fn held_only(enabled: bool, q: Pattern, t: Transfer) -> bool
         | ((t.front == 0) & (t.behind == 0) & (t.bytes == 0) & !t.unfinished & !t.pair)
 }
 
+#[tactic(auto, unfolding(rules::specs::Sound::sound_transfer, rules::specs::Sound::room_only, rules::specs::Sound::bytes_only, rules::specs::Sound::unfinished_only, rules::specs::Sound::pair_only, rules::specs::Sound::front_only))]
 fn sound_transfer(enabled: bool, output: u8, q: Pattern, s: Source, t: Transfer) -> bool
     ensures { result ≡ sound_transfer enabled output q s t }
 {
@@ -124,6 +134,7 @@ fn sound_transfer(enabled: bool, output: u8, q: Pattern, s: Source, t: Transfer)
     held_only(enabled, q, t) & (t.bytes <= ports::depth(q)) & bytes & unfinished & pair & front
 }
 
+#[tactic(auto, unfolding(rules::specs::Sound::sound_transfer_at))]
 fn sound_transfer_at(d: Device, p: usize) -> bool
     requires { p < 2 }
     ensures { result ≡ sound_transfer_at d p }
@@ -138,6 +149,7 @@ fn sound_transfer_at(d: Device, p: usize) -> bool
     )
 }
 
+#[tactic(auto, unfolding(rules::specs::Sound::sound_transfers))]
 fn sound_transfers(d: Device) -> bool
     ensures { result ≡ sound_transfers d }
 {
@@ -158,6 +170,7 @@ fn later_port(version: u8, q: Pattern) -> bool
         | settings::later_priority(wide(q.mode), wide(q.transition))
 }
 
+#[tactic(auto, unfolding(rules::specs::Sound::no_later))]
 fn no_later(d: Device) -> bool
     ensures { result ≡ no_later d }
 {
@@ -169,6 +182,7 @@ fn no_later(d: Device) -> bool
         & !settings::later_counter_mode(wide(d.counters[2].mode))
 }
 
+#[tactic(auto, unfolding(rules::specs::Sound::reset_only))]
 fn reset_only(d: Device) -> bool
     ensures { result ≡ reset_only d }
 {
@@ -181,12 +195,14 @@ fn reset_only(d: Device) -> bool
     true
 }
 
+#[tactic(auto, unfolding(rules::specs::Sound::sound_version))]
 fn sound_version(d: Device) -> bool
     ensures { result ≡ sound_version d }
 {
     (d.version == 1) | (d.version == 2)
 }
 
+#[tactic(auto, unfolding(rules::specs::Sound::same_lines, rules::specs::Sound::sound_lines))]
 fn sound_lines(d: Device) -> bool
     ensures { result ≡ sound_lines d }
 {
@@ -195,6 +211,7 @@ fn sound_lines(d: Device) -> bool
     (l.int == m.int) & (l.ieo == m.ieo) & (l.place == m.place)
 }
 
+#[tactic(auto, unfolding(rules::specs::Sound::sound_but_lines))]
 fn sound_but_lines(d: Device) -> bool
     ensures { result ≡ sound_but_lines d }
 {
@@ -208,6 +225,7 @@ fn sound_but_lines(d: Device) -> bool
         & reset_only(d)
 }
 
+#[tactic(auto, unfolding(rules::specs::Sound::sound_of))]
 pub fn sound(d: Device) -> bool
     ensures { result ≡ sound_of d }
 {

@@ -1,3 +1,4 @@
+-- the definition with its tests as in the code
 use mathlib.Core.Path.{◌≡◌}
 use mathlib.Core.Bool.{Bool, false, not, ◌&&◌, ◌||◌, beq}
 use lib.Dec.{eqb}
@@ -6,11 +7,8 @@ use Rattle.rules.specs.declared.Pattern.{Pattern}
 use Rattle.rules.specs.declared.Transfer.{Transfer}
 use Rattle.rules.specs.Handshakes.{handshakes}
 use Rattle.rules.specs.Sound.{only, same_transfer, held_only}
-use borrow.Author.Rules.{rules}
-use Rattle.refusals.proofs.soundness.held_only.Statement.{statement}
-use Rattle.refusals.proofs.soundness.held_only.Tie as tie
+use Rattle.refusals.proofs.soundness.held_only.Goals as goal
 
--- the definition with its tests as in the code
 tested : (e : Bool) (q : Pattern) (t : Transfer)
     → held_only e q t ≡ ((handshakes q && e) || (eqb t.front 0 && eqb t.behind 0 && eqb t.bytes 0 && not t.unfinished && not t.pair))
 unfolding held_only same_transfer
@@ -20,11 +18,5 @@ tested e q t =
     (λ x f b n u p. beq (only (not x) (f && b && n && beq u false && beq p false)) (x || (f && b && n && not u && not p)))
     tt (handshakes q && e) (eqb t.front 0) (eqb t.behind 0) (eqb t.bytes 0) t.unfinished t.pair)
 
-handshakes-requires : tie.Need-handshakes-requires
-handshakes-requires c κs = search rules
-
-returns : tie.Need-returns
-returns c = simp (tested, c.before.before.before.before.before.handshakes.ensures)
-
-pub held-only-spec : {M : Type 1} → statement M
-held-only-spec = tie.close (tie.spec handshakes-requires returns)
+pub returns : goal.returns
+returns c = simp (tested, c.handshakes.ensures)
