@@ -39,6 +39,7 @@ pub struct OutcomeZ8536 {
 }
 
 // Whether pointer and state are clear if the device is in reset.
+#[tactic(auto, unfolding(crate::specs::Z8536::reset_clear))]
 fn reset_clear(z: Z8536) -> bool
     ensures { result ≡ reset_clear z }
 {
@@ -46,6 +47,7 @@ fn reset_clear(z: Z8536) -> bool
     !d.reset() | ((z.pointer == 0) & !z.pointed)
 }
 
+#[tactic(auto, unfolding(crate::specs::Z8536::sound_z8536))]
 pub fn sound(z: Z8536) -> bool
     ensures { result ≡ sound_z8536 z }
 {
