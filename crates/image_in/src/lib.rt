@@ -16,6 +16,7 @@ use unused::{
     counts_clear, lines_clear, pins_clear, registers_clear, states_agree, transfers_clear,
 };
 
+#[tactic(auto, unfolding(bodies::specs::Taken::record_in))]
 pub fn device(
     version: u8,
     registers: &[u8],
@@ -33,6 +34,7 @@ pub fn device(
     interrupts::relined(read_transfers(lined, transfers))
 }
 
+#[tactic(auto, unfolding(bodies::specs::Taken::unused_clear))]
 pub fn clear(registers: &[u8], counts: &[u8], pins: &[u8], lines: &[u8], transfers: &[u8]) -> bool
     ensures { result ≡ (unused_clear registers.now counts.now pins.now lines.now transfers.now
         && states_agree registers.now transfers.now) }

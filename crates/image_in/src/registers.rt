@@ -56,6 +56,7 @@ fn ports_in(b: &[u8]) -> [Port; 3]
 }
 
 // Port A's or B's.
+#[tactic(auto, unfolding(bodies::specs::Taken::pattern_in))]
 pub(crate) fn pattern_in(b: &[u8], p: usize) -> Pattern
     requires { p < 2 }
     ensures { result ≡ pattern_in b.now p }
@@ -72,6 +73,7 @@ pub(crate) fn pattern_in(b: &[u8], p: usize) -> Pattern
 }
 
 // Counter i's.
+#[tactic(auto, unfolding(bodies::specs::Taken::counter_in))]
 fn counter_in(b: &[u8], i: usize) -> Counter
     requires { i < 3 }
     ensures { result ≡ counter_in b.now i }
@@ -89,6 +91,7 @@ fn counter_in(b: &[u8], i: usize) -> Counter
     }
 }
 
+#[tactic(auto, unfolding(bodies::specs::Taken::registers_in))]
 pub(crate) fn read_registers(version: u8, b: &[u8]) -> Device
     ensures { result ≡ registers_in version b.now }
 {

@@ -7,6 +7,7 @@ use crate::bits::bit_at;
 use rules::{Counter, Device, Port, Source, Transfer};
 
 // Counter i with its count, its half and its pulse.
+#[tactic(auto, unfolding(bodies::specs::Taken::counter_with))]
 fn counter_with(c: Counter, b: &[u8], i: usize) -> Counter
     requires { i < 3 }
     ensures { result ≡ counter_with c b.now i }
@@ -41,6 +42,7 @@ fn sources_with(s: [Source; 5], b: &[u8]) -> [Source; 5]
     ]
 }
 
+#[tactic(auto, unfolding(bodies::specs::Taken::counts_in))]
 pub(crate) fn read_counts(d: Device, b: &[u8]) -> Device
     ensures { result ≡ counts_in d b.now }
 {
@@ -89,6 +91,7 @@ fn hidden_with(s: [Source; 5], b: &[u8]) -> [Source; 5]
     ]
 }
 
+#[tactic(auto, unfolding(bodies::specs::Taken::pins_in))]
 pub(crate) fn read_pins(d: Device, b: &[u8]) -> Device
     ensures { result ≡ pins_in d b.now }
 {
@@ -101,6 +104,7 @@ pub(crate) fn read_pins(d: Device, b: &[u8]) -> Device
     }
 }
 
+#[tactic(auto, unfolding(bodies::specs::Taken::lines_in))]
 pub(crate) fn read_lines(d: Device, b: &[u8]) -> Device
     ensures { result ≡ lines_in d b.now }
 {
@@ -112,6 +116,7 @@ pub(crate) fn read_lines(d: Device, b: &[u8]) -> Device
 }
 
 // What port p holds.
+#[tactic(auto, unfolding(bodies::specs::Taken::transfer_in))]
 pub(crate) fn transfer_in(b: &[u8], p: usize) -> Transfer
     requires { p < 2 }
     ensures { result ≡ transfer_in b.now p }
@@ -125,6 +130,7 @@ pub(crate) fn transfer_in(b: &[u8], p: usize) -> Transfer
     }
 }
 
+#[tactic(auto, unfolding(bodies::specs::Taken::transfers_in))]
 pub(crate) fn read_transfers(d: Device, b: &[u8]) -> Device
     ensures { result ≡ transfers_in d b.now }
 {

@@ -47,6 +47,7 @@ pub(crate) fn transfers_clear(b: &[u8]) -> bool
 }
 
 // Whether ORE and IRF of port p in body 1 are what body 5 makes of them.
+#[tactic(auto, unfolding(bodies::specs::Taken::state_agrees))]
 fn state_agrees(registers: &[u8], transfers: &[u8], p: usize) -> bool
     requires { p < 2 }
     ensures { result ≡ state_agrees registers.now transfers.now p }
@@ -58,6 +59,7 @@ fn state_agrees(registers: &[u8], transfers: &[u8], p: usize) -> bool
     (bit_at(registers, 0x08 + p, 3) == ore) & (bit_at(registers, 0x08 + p, 2) == irf)
 }
 
+#[tactic(auto, unfolding(bodies::specs::Taken::states_agree))]
 pub(crate) fn states_agree(registers: &[u8], transfers: &[u8]) -> bool
     ensures { result ≡ states_agree registers.now transfers.now }
 {
