@@ -31,6 +31,7 @@ fn unreadable() -> RowEvent
 }
 
 // Whether a kind of event names a device.
+#[tactic(auto, unfolding(rows::specs::Rows::names))]
 fn names(e: Event) -> bool
     ensures { result ≡ names_of e }
 {
@@ -39,6 +40,7 @@ fn names(e: Event) -> bool
 }
 
 // W, R, P and X have a device before them.
+#[tactic(auto, unfolding(crate::specs::RowLines::of_device))]
 fn of_device(device: u32, e: Event) -> RowEvent
     ensures { result ≡ of_device device e }
 {
@@ -52,6 +54,7 @@ fn of_device(device: u32, e: Event) -> RowEvent
 }
 
 // And T, K and E none.
+#[tactic(auto, unfolding(crate::specs::RowLines::of_all))]
 fn of_all(e: Event) -> RowEvent
     ensures { result ≡ of_all e }
 {
@@ -65,6 +68,7 @@ fn of_all(e: Event) -> RowEvent
 }
 
 // Whether a line begins with a digit and a space.
+#[tactic(auto, unfolding(crate::specs::RowLines::names_device))]
 fn names_device(s: &[u8]) -> bool
     ensures { result ≡ names_device s.now }
 {
@@ -93,6 +97,7 @@ fn rest(s: &[u8]) -> Text
 }
 
 // What the bytes of a line say.
+#[tactic(auto, unfolding(crate::specs::RowLines::row_says))]
 fn said(s: &[u8], t: Text) -> RowEvent
     ensures { result ≡ row_says s.now (event_in (says_of t)) }
 {
@@ -107,6 +112,7 @@ fn said(s: &[u8], t: Text) -> RowEvent
 }
 
 // The event of a line that is kept.
+#[tactic(auto, unfolding(crate::specs::RowLines::row_line, crate::specs::RowLines::row_says, texts::specs::Kept::bytes_of, texts::specs::Kept::kept_len, crate::specs::RowLines::names_device))]
 pub fn event_of_line(t: Text) -> RowEvent
     ensures { result ≡ row_line t }
 {
@@ -119,6 +125,7 @@ pub fn event_of_line(t: Text) -> RowEvent
 }
 
 // The code and the value of an answer: a space and two digits, after the code.
+#[tactic(auto, unfolding(crate::specs::RowLines::head_text, texts::specs::Kept::typed, texts::specs::Answers::hex_text))]
 pub fn head_text(a: RowAnswer) -> Text
     ensures { result ≡ typed no_text (head_text a) }
 {
@@ -148,6 +155,7 @@ fn alone(x: Shown) -> Answer
 }
 
 // A device in an answer.
+#[tactic(auto, unfolding(crate::specs::RowLines::device_text, texts::specs::Kept::typed))]
 pub fn device_text(x: Shown) -> Text
     ensures { result ≡ typed no_text (device_text x) }
 {
