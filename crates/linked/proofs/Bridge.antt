@@ -14,8 +14,8 @@ use Rattle.rules.specs.declared.Counter.{Counter}
 use Rattle.rules.specs.declared.Counted.{Counted}
 use Rattle.rules.specs.declared.Reach.{Reach}
 use Rattle.rules.specs.Record.{counter_at, idle}
-use Rattle.rules.specs.With.{with_count, with_cip, with_half, with_pulse, with_counters}
-use Rattle.rules.specs.Counters.{continuous, square, takes, loaded, less_one, terminal_of, count_of, clocks, clocked_by, turn_of, pulse_of, output_of, unlinked}
+use Rattle.rules.specs.With.{with_counters}
+use Rattle.rules.specs.Counters.{continuous, square, takes, loaded, less_one, terminal_of, count_of, clocks, clocked_by, turn_of, pulse_of, output_of}
 use Rattle.theorems.specs.declared.Pair.{Pair}
 use Rattle.theorems.specs.Moving.{turn_in, link_by, side_by, seen_with, pair_of, paired_by}
 use Rattle.theorems.proofs.Alike.{Alike, seen_alike}

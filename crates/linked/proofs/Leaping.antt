@@ -6,7 +6,6 @@ use mathlib.Core.Bool.{Bool, true, ◌&&◌, beq}
 use native.Mathlib.Omega.{arith}
 use lib.Dec.{eqb, ltb}
 use borrow.Author.Tests.{eqb-true, ltb-true}
-use Rattle.basics.specs.Iterate.{iterate}
 use Rattle.basics.proofs.Tests.{left, right, triple}
 use Rattle.rules.specs.declared.Counter.{Counter}
 use Rattle.rules.specs.Sound.{same_source, same_counter}
@@ -14,7 +13,6 @@ use Rattle.theorems.specs.declared.Side.{Side}
 use Rattle.theorems.specs.declared.Pair.{Pair}
 use Rattle.theorems.proofs.Equal.{beq-true, same_source_lem, same-counter}
 use Rattle.linked.specs.declared.stage.Stage.{Stage}
-use Rattle.linked.specs.declared.chase.Leap.{Leap}
 use Rattle.linked.specs.Stage.{paired_on}
 use Rattle.linked.specs.Chase.{lowered_of, with_terminals, Above, Leaps}
 use Rattle.linked.proofs.Stretch.{stretch}

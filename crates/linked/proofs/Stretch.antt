@@ -15,7 +15,6 @@ use Rattle.basics.specs.Byte.{num}
 use Rattle.basics.specs.Iterate.{iterate}
 use Rattle.rules.specs.Counters.{takes, less_one, count_of, clocks, clocked_by, output_of, unlinked, link_of, reach_of, turn_of}
 use Rattle.theorems.specs.declared.Pair.{Pair}
-use Rattle.theorems.specs.declared.Side.{Side}
 use Rattle.theorems.specs.Stretch.{lower_of}
 use Rattle.theorems.proofs.Lowered.{quietly, Room, lower-output, lower-zero, again}
 use Rattle.linked.specs.declared.stage.Stage.{Stage}

@@ -1,6 +1,6 @@
 -- A run by leaps, in search of its rounds: what its record says, and when one follows another.
 -- Assumes nothing.
-use Rattle.std.specs.Prelude.{ℕ, ◌+◌, ◌≤◌, ◌<◌, ◌≡◌, Bool, true, false}
+use Rattle.std.specs.Prelude.{ℕ, ◌+◌, ◌≤◌, ◌<◌, ◌≡◌, Bool, true}
 use Rattle.basics.specs.Iterate.{iterate}
 use Rattle.theorems.specs.declared.Pair.{Pair}
 use Rattle.theorems.specs.Stretch.{lower_of}

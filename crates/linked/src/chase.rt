@@ -55,6 +55,7 @@ fn moves(then: Counter, now: Counter) -> bool
 }
 
 // A counter k counts later, if it moves.
+#[tactic(auto, unfolding(theorems::specs::Stretch::lower_of))]
 fn lower(k: u32, moves: bool, c: Counter) -> Counter
     requires { moves ≡ true → k ≤ c.count }
     ensures { result ≡ lower_of k moves c }
@@ -68,6 +69,7 @@ fn lower(k: u32, moves: bool, c: Counter) -> Counter
 }
 
 // A pair k counts later, where a and b tell which of the counters move.
+#[tactic(auto, unfolding(crate::specs::Chase::lowered_of))]
 fn lowered(k: u32, a: bool, b: bool, x: Pair) -> Pair
     requires { Above k a b x }
     ensures { result ≡ lowered_of k a b x }
@@ -124,6 +126,7 @@ fn far(f: Stage, a: bool, b: bool, x: Pair, left: u32) -> Leap
 }
 
 // A clock, or all clocks like it.
+#[tactic(auto, unfolding(basics::specs::Iterate::iterate))]
 fn leapt(f: Stage, x: Pair, left: u32) -> Leap
     requires { (0 < left) × (x.terminals + left ≤ 4294967295) }
     ensures { Leaps f x left result }
@@ -157,6 +160,7 @@ fn advanced(f: Stage, c: Chase) -> Chase
 }
 
 // The pair has come back: all whole rounds that are left.
+#[tactic(auto, unfolding(crate::specs::Chase::with_terminals))]
 fn skipped(f: Stage, c: Chase) -> Chase
     requires { Holds f c × (0 < c.since) × (with_terminals c.now c.anchor.terminals ≡ c.anchor) }
     ensures { Follows f c result }
@@ -240,6 +244,7 @@ fn by_rounds(f: Stage, x: Pair, k: u32) -> Pair
 const A_WHILE: u32 = 16;
 
 // k timer clocks.
+#[tactic(auto, unfolding(basics::specs::Iterate::iterate))]
 pub(crate) fn run(f: Stage, x: Pair, k: u32) -> Pair
     requires { x.terminals ≡ 0 }
     ensures { result ≡ iterate k (paired_on f) x }

@@ -13,6 +13,7 @@ use rules::Device;
 use theorems::Pair;
 
 // k timer clocks from a record.
+#[tactic(auto, unfolding(theorems::specs::Moving::pair_of))]
 pub fn linked(k: u32, d: Device) -> Pair
     ensures { result ≡ iterate k (paired_by d) (pair_of d) }
 {

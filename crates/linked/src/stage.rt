@@ -23,6 +23,7 @@ pub struct Stage {
 }
 
 // A counter with its output at v.
+#[tactic(auto, unfolding(crate::specs::Stage::showing))]
 fn show(v: bool, c: Counter) -> Counter
     ensures { result ≡ showing v c }
 {
@@ -34,6 +35,7 @@ fn show(v: bool, c: Counter) -> Counter
     e
 }
 
+#[tactic(auto, unfolding(crate::specs::Stage::shown_with, theorems::specs::Moving::seen_with))]
 fn shown(d: Device, a: bool, b: bool) -> u8
     ensures { result ≡ shown_with d a b }
 {
@@ -45,6 +47,7 @@ fn shown(d: Device, a: bool, b: bool) -> u8
     levels::seen_at(e, 1)
 }
 
+#[tactic(auto, unfolding(crate::specs::Stage::stage_of))]
 pub(crate) fn from(d: Device) -> Stage
     ensures { result ≡ stage_of d }
 {
@@ -68,6 +71,7 @@ pub(crate) fn from(d: Device) -> Stage
     }
 }
 
+#[tactic(auto, unfolding(theorems::specs::Moving::pair_of, theorems::specs::Moving::side_at))]
 pub(crate) fn pair(d: Device) -> Pair
     ensures { result ≡ pair_of d }
 {
@@ -85,6 +89,7 @@ pub(crate) fn pair(d: Device) -> Pair
     }
 }
 
+#[tactic(auto, unfolding(crate::specs::Stage::turn_on))]
 fn turn(f: Stage, i: usize, k: Link, c: Counter) -> Counted
     requires { i < 2 }
     ensures { result ≡ turn_on f i k c }
@@ -92,6 +97,7 @@ fn turn(f: Stage, i: usize, k: Link, c: Counter) -> Counted
     counters::turn(f.version, f.enabled[i], c, k, true, f.lines[i], f.lines[i])
 }
 
+#[tactic(auto, unfolding(crate::specs::Stage::link_on))]
 fn link(f: Stage, before: Counter, after: Counter) -> Link
     ensures { result ≡ link_on f before after }
 {
@@ -110,6 +116,7 @@ fn place(a: bool, b: bool) -> usize
     high + low
 }
 
+#[tactic(auto, unfolding(crate::specs::Stage::seen_on))]
 fn seen(f: Stage, one: Counter, two: Counter) -> u8
     ensures { result ≡ seen_on f one two }
 {
@@ -119,6 +126,7 @@ fn seen(f: Stage, one: Counter, two: Counter) -> u8
     )]
 }
 
+#[tactic(auto, unfolding(crate::specs::Stage::side_on))]
 fn sided(f: Stage, before: u8, after: u8, x: Side) -> Side
     ensures { result ≡ side_on f before after x }
 {
@@ -142,6 +150,7 @@ fn add(n: u32, t: bool) -> u32
 }
 
 // One timer clock.
+#[tactic(auto, unfolding(crate::specs::Stage::paired_on))]
 pub(crate) fn clock(f: Stage, x: Pair) -> Pair
     requires { x.terminals < 4294967295 }
     ensures { result ≡ paired_on f x }

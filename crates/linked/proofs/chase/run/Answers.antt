@@ -1,0 +1,21 @@
+-- src/chase.rt:250:5
+-- src/chase.rt:251:13
+-- src/chase.rt:253:9
+-- src/chase.rt:254:9
+-- src/chase.rt:250:5
+-- src/chase.rt:250:5
+-- src/chase.rt:257:9
+-- src/chase.rt:259:5
+-- src/chase.rt:243:1
+use Rattle.linked.proofs.Moments.{rest, rest-room}
+use mathlib.Core.Path.{◌∙◌}
+use Rattle.linked.proofs.chase.run.Goals as goal
+
+pub loop-left-preserved : goal.loop-left-preserved
+loop-left-preserved c =
+    let f = c.args.f in
+    let s = c.loop-left in
+    let l = c.leapt-l in (
+      rest f s.left _ s.now _ l.ensures.within l.ensures.pair ∙ s.invariant.0,
+      rest-room f s.left _ s.now _ l.ensures.within l.ensures.pair s.invariant.1,
+    )
