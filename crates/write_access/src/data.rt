@@ -7,6 +7,7 @@ ghost use Rattle.rules.specs.PortData.{unprotected, written_data};
 use rules::Port;
 
 // What port p keeps of a byte: Port C four bits.
+#[tactic(auto, unfolding(rules::specs::Registers::kept))]
 pub(crate) fn keep(p: usize, b: u8) -> u8
     ensures { result ≡ kept p b }
 {
@@ -17,6 +18,7 @@ pub(crate) fn keep(p: usize, b: u8) -> u8
 }
 
 // The bits of a data write that are not protected.
+#[tactic(auto, unfolding(rules::specs::PortData::unprotected, basics::specs::Byte::byte_of))]
 fn opened(p: usize, b: u8) -> u8
     ensures { result ≡ byte_of (unprotected p b) }
 {
@@ -27,6 +29,7 @@ fn opened(p: usize, b: u8) -> u8
 }
 
 // A write of data to port p, with the direction that is in effect.
+#[tactic(auto, unfolding(rules::specs::PortData::written_data))]
 pub(crate) fn put(q: Port, direction: u8, p: usize, b: u8) -> Port
     ensures { result ≡ written_data q direction p b }
 {

@@ -12,6 +12,7 @@ ghost use Rattle.registers.specs.Place.{place, places};
 
 use rules::{Counter, Device, Kind, Source, Transfer};
 
+#[tactic(auto, unfolding(rules::specs::Access::master_written))]
 fn write_master(d: Device, b: u8) -> Device
     ensures { result ≡ master_written d b }
 {
@@ -25,6 +26,7 @@ fn write_master(d: Device, b: u8) -> Device
 }
 
 // A counter whose enable is written.
+#[tactic(auto, unfolding(rules::specs::Counters::enabled_by))]
 fn enable(v: bool, c: Counter) -> Counter
     ensures { result ≡ enabled_by v c }
 {
@@ -39,6 +41,7 @@ fn enable(v: bool, c: Counter) -> Counter
 }
 
 // What a port holds, where its enable is written.
+#[tactic(auto, unfolding(rules::specs::Access::kept_by))]
 fn keep(v: bool, t: Transfer) -> Transfer
     ensures { result ≡ kept_by v t }
 {
@@ -60,6 +63,7 @@ fn none_held() -> Transfer
     }
 }
 
+#[tactic(auto, unfolding(rules::specs::Access::config_written))]
 fn write_config(d: Device, b: u8) -> Device
     ensures { result ≡ config_written d b }
 {
@@ -76,6 +80,7 @@ fn write_config(d: Device, b: u8) -> Device
     e
 }
 
+#[tactic(auto, unfolding(rules::specs::Access::port_commanded))]
 fn command_port(d: Device, p: usize, b: u8) -> Device
     requires { p < 2 }
     ensures { result ≡ port_commanded d p b }
@@ -89,6 +94,7 @@ fn command_port(d: Device, p: usize, b: u8) -> Device
     e
 }
 
+#[tactic(auto, unfolding(rules::specs::Access::counter_commanded))]
 fn command_counter(d: Device, i: usize, b: u8) -> Device
     requires { i < 3 }
     ensures { result ≡ counter_commanded d i b }
@@ -102,6 +108,7 @@ fn command_counter(d: Device, i: usize, b: u8) -> Device
     e
 }
 
+#[tactic(auto, unfolding(rules::specs::Access::data_written))]
 fn write_data(d: Device, p: usize, b: u8) -> Device
     requires { p < 3 }
     ensures { result ≡ data_written d p b }
@@ -116,6 +123,7 @@ fn write_data(d: Device, p: usize, b: u8) -> Device
 }
 
 // The table of the registers, an arm for each. It writes one record in place: arms that each return one took twice the instructions.
+#[tactic(auto, unfolding(rules::specs::Access::written_of))]
 fn write_kind(d: Device, k: Kind, b: u8) -> Device
     requires { place k < places k }
     ensures { result ≡ written_of d k b }
