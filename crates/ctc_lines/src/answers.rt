@@ -8,12 +8,14 @@ use ctc_rules::CtcAnswer;
 use texts::{Text, decimal, glyph, push};
 
 // A space and a byte.
+#[tactic(auto, unfolding(texts::specs::Kept::typed))]
 fn spaced(t: Text, b: u8) -> Text
     ensures { result ≡ typed t (space ∷ b ∷ []) }
 {
     push(push(t, b' '), b)
 }
 
+#[tactic(auto, unfolding(texts::specs::Answers::flag_text))]
 fn flag(t: Text, f: bool) -> Text
     ensures { result ≡ typed t (flag_text f) }
 {
@@ -23,12 +25,14 @@ fn flag(t: Text, f: bool) -> Text
     spaced(t, b'0')
 }
 
+#[tactic(auto, unfolding(texts::specs::Kept::typed, texts::specs::Answers::count_text))]
 fn count(t: Text, n: u32) -> Text
     ensures { result ≡ typed t (count_text n) }
 {
     decimal(push(t, b' '), n)
 }
 
+#[tactic(auto, unfolding(crate::specs::Answers::zeros_text))]
 fn zeros(t: Text, n: [u32; 4]) -> Text
     ensures { result ≡ typed t (zeros_text n) }
 {
@@ -36,6 +40,7 @@ fn zeros(t: Text, n: [u32; 4]) -> Text
 }
 
 // The line of an answer, with its line feed.
+#[tactic(auto, unfolding(texts::specs::Kept::typed, texts::specs::Answers::hex_text, texts::specs::Answers::nibble_text, crate::specs::Answers::ctc_text))]
 pub fn answer_text(a: CtcAnswer) -> Text
     ensures { result ≡ typed no_text (ctc_text a) }
 {

@@ -6,6 +6,7 @@ ghost use Rattle.ctc_lines.specs.Lines.{ends_service, outcome_kept};
 use ctc_rules::{Ctc, CtcOutcome};
 use texts::{ROOM, Text};
 
+#[tactic(auto, unfolding(crate::specs::Lines::ends_service))]
 fn is_end(s: &[u8]) -> bool
     ensures { result ≡ ends_service s.now }
 {
@@ -13,6 +14,7 @@ fn is_end(s: &[u8]) -> bool
 }
 
 // Whether a line that is kept is the letter I alone; one that found no room is not.
+#[tactic(auto, unfolding(texts::specs::Kept::bytes_of, texts::specs::Kept::kept_len, crate::specs::Lines::ends_service))]
 fn ends_service(t: Text) -> bool
     ensures { result ≡ ends_service (bytes_of t) }
 {
@@ -25,6 +27,7 @@ fn ends_service(t: Text) -> bool
 }
 
 // Says a line that is kept to the device.
+#[tactic(auto, unfolding(crate::specs::Lines::outcome_kept, crate::specs::Lines::outcome_line, lines::specs::Lines::says_of))]
 pub fn outcome(d: Ctc, t: Text) -> CtcOutcome
     ensures { result ≡ outcome_kept d t }
 {
