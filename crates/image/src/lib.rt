@@ -43,6 +43,7 @@ pub fn same_bytes(a: &[u8], b: &[u8]) -> bool
 }
 
 // How long the fifth body of a version is: version 1 has none.
+#[tactic(auto, unfolding(crate::specs::Image::fifth_len))]
 fn fifth_len(version: u8) -> usize
     ensures { (result ≡ fifth_len version) × (result ≤ 8) }
 {
@@ -53,6 +54,7 @@ fn fifth_len(version: u8) -> usize
 }
 
 // Contents, and behind them the bodies of a record.
+#[tactic(auto, unfolding(bodies::specs::Written::registers_body, bodies::specs::Written::counts_body, bodies::specs::Written::pins_body, bodies::specs::Written::lines_body, bodies::specs::Written::transfers_body))]
 pub(crate) fn write_by(contents: &[u8], d: Device, buf: &mut [u8])
     requires { length contents.now + bodies_len d.version ≤ length buf.old }
     ensures { buf.new ≡ laid_by contents.now d
@@ -105,6 +107,7 @@ fn refuse(code: u8) -> Restored
 }
 
 // The record of five bodies, if their unused bits are 0 and it is sound.
+#[tactic(auto, unfolding(crate::specs::Image::accepted_of))]
 fn accept(
     version: u8,
     registers: &[u8],
@@ -129,6 +132,7 @@ fn accept(
 }
 
 // An image with these contents, of a record of a version; behind its bodies stand `more` bytes.
+#[tactic(auto, unfolding(crate::specs::Image::restored_by))]
 pub(crate) fn restore_by(version: u8, contents: &[u8], more: u8, s: &[u8]) -> Restored
     ensures { result ≡ restored_by version contents.now more s.now }
 {
@@ -159,6 +163,7 @@ pub(crate) fn restore_by(version: u8, contents: &[u8], more: u8, s: &[u8]) -> Re
 
 // Restores the record of an image of version 1 or 2. Codes: 7 for an image shorter than its version's contents, 8 for other contents,
 // 7 for another length, 9 for bodies that are not sound, else 0. A refused restore gives the fresh device.
+#[tactic(auto, unfolding(crate::specs::Image::restored_of, bodies::specs::Layout::layout_in))]
 pub fn restore(s: &[u8]) -> Restored
     ensures { result ≡ restored_of s.now }
 {

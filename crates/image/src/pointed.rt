@@ -7,6 +7,7 @@ use crate::{Restored, RestoredZ8536, contents};
 use z8536::Z8536;
 
 // The image of a record of version 2 and a pointer, into the first 102 bytes of a buffer.
+#[tactic(auto, unfolding(bodies::specs::Written::pointer_body))]
 fn write_z8536(z: Z8536, buf: &mut [u8])
     requires { (length_of layout3 ≤ length buf.old) × (z.core.version ≡ 2) }
     ensures { buf.new ≡ image_z8536 z ++ drop (length_of layout3) buf.old }
@@ -41,6 +42,7 @@ fn refuse(code: u8) -> RestoredZ8536
 }
 
 // What refuses an image with another first byte.
+#[tactic(auto, unfolding(crate::specs::Pointed::other_code))]
 fn other_code(s: &[u8]) -> u8
     ensures { result ≡ other_code s.now }
 {
@@ -51,6 +53,7 @@ fn other_code(s: &[u8]) -> u8
 }
 
 // A core that was restored, with the sixth body beside it.
+#[tactic(auto, unfolding(crate::specs::Pointed::with_pointer))]
 fn with_pointer(r: Restored, b: &[u8]) -> RestoredZ8536
     ensures { result ≡ with_pointer r b.now }
 {
@@ -74,6 +77,7 @@ fn with_pointer(r: Restored, b: &[u8]) -> RestoredZ8536
 }
 
 // Restores a Z8536 from its image, with the codes of the Z8036's restore in their order. A refused restore gives the fresh device.
+#[tactic(auto, unfolding(crate::specs::Pointed::restored_z8536))]
 pub fn restore_z8536(s: &[u8]) -> RestoredZ8536
     ensures { result ≡ restored_z8536 s.now }
 {
