@@ -1,6 +1,6 @@
 -- What the numbers of a report leave room for. Each is at most the timer clocks so far, so `T n` always has the room that it needs.
 -- Assumes nothing.
-use Rattle.std.specs.Prelude.{ℕ, ◌+◌, ◌≤◌, ◌<◌, List, get_or}
+use Rattle.std.specs.Prelude.{ℕ, ◌+◌, ◌≤◌, List, get_or}
 use Rattle.rules.specs.declared.Report.{Report}
 
 -- n more, each: of a row of numbers, and of a report

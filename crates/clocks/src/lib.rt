@@ -70,6 +70,7 @@ fn counter_at(d: Device, i: usize) -> Counter
 }
 
 // Counter i, which is c, with its source after k timer clocks.
+#[tactic(auto, unfolding(theorems::specs::Moving::part_after))]
 fn part(d: Device, i: usize, c: Counter, k: u32) -> Part
     requires { (i < 3) × (c ≡ counter_at d i) }
     ensures { result ≡ part_after d i k }
@@ -79,6 +80,7 @@ fn part(d: Device, i: usize, c: Counter, k: u32) -> Part
 }
 
 // Whether the pattern of port p matches what stands there.
+#[tactic(auto, unfolding(rules::specs::Patterns::match_of))]
 fn matches_at(d: Device, p: usize) -> bool
     requires { p < 2 }
     ensures { result ≡ match_of (port_enabled d p) (pattern_at d p) (seen_at d p) (seen_at d p) }
@@ -92,6 +94,7 @@ fn matches_at(d: Device, p: usize) -> bool
 }
 
 // Port p's side after k timer clocks in which nothing that it sees changes.
+#[tactic(auto, unfolding(theorems::specs::Moving::side_after, theorems::specs::Moving::side_at, theorems::specs::Moving::side_by))]
 fn side(d: Device, p: usize, k: u32) -> Side
     requires { p < 2 }
     ensures { result ≡ side_after d p k }
@@ -112,6 +115,7 @@ fn side(d: Device, p: usize, k: u32) -> Side
 }
 
 // Whether no counter is linked, and no output is where Port B's pattern could see it.
+#[tactic(auto, unfolding(theorems::specs::Moving::apart))]
 fn all_apart(d: Device) -> bool
     ensures { result ≡ apart d }
 {
@@ -123,6 +127,7 @@ fn all_apart(d: Device) -> bool
 }
 
 // The record with the parts and sides that n clocks leave, and their report.
+#[tactic(auto, unfolding(theorems::specs::Moving::run_with, theorems::specs::Moving::with_moving, theorems::specs::Moving::phase_after))]
 fn with(d: Device, n: u32, one: Part, two: Part, three: Part, a: Side, b: Side) -> Ran
     ensures { result ≡ run_with d n (record { one = one; two = two; three = three; a = a; b = b }) }
 {
@@ -151,6 +156,7 @@ fn with(d: Device, n: u32, one: Part, two: Part, three: Part, a: Side, b: Side) 
 }
 
 // n clocks of a record whose catchers have caught.
+#[tactic(auto, unfolding(theorems::specs::Moving::by_division, theorems::specs::Moving::alones_after, theorems::specs::Moving::besides))]
 fn parts(n: u32, d: Device) -> Ran
     requires { Caught d × (reset d ≡ false) }
     ensures { result ≡ ran_of n d }
@@ -173,6 +179,7 @@ fn parts(n: u32, d: Device) -> Ran
 }
 
 // One PCLK clock, with the report so far.
+#[tactic(auto, unfolding(rules::specs::Step::clock_of))]
 fn clock(s: Ran) -> Ran
     requires { Room 1 s.report }
     ensures { result ≡ clock_of s }

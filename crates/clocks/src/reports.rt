@@ -19,6 +19,7 @@ fn add(n: u32, t: bool) -> u32
     n
 }
 
+#[tactic(auto, unfolding(rules::specs::Report::sums, rules::specs::Report::nums))]
 fn added(n: [u32; 3], t: [bool; 3]) -> [u32; 3]
     requires { RoomIn 1 n }
     ensures { result ≡ sums n (nums t) }
@@ -27,6 +28,7 @@ fn added(n: [u32; 3], t: [bool; 3]) -> [u32; 3]
 }
 
 // The report so far, with that of a step.
+#[tactic(auto, unfolding(rules::specs::Step::reported, rules::specs::Report::reports_added))]
 pub(crate) fn reported(r: Report, s: Stepped) -> Ran
     requires { Room 1 r }
     ensures { result ≡ reported_of r s }
@@ -48,6 +50,7 @@ pub(crate) fn reported(r: Report, s: Stepped) -> Ran
     }
 }
 
+#[tactic(auto, unfolding(rules::specs::Report::sums))]
 fn both(n: [u32; 3], m: [u32; 3]) -> [u32; 3]
     requires { BothIn n m }
     ensures { result ≡ sums n m }
@@ -56,6 +59,7 @@ fn both(n: [u32; 3], m: [u32; 3]) -> [u32; 3]
 }
 
 // A run with the report of earlier clocks added.
+#[tactic(auto, unfolding(rules::specs::Report::reports_added))]
 pub(crate) fn on_top(r: Report, s: Ran) -> Ran
     requires { Both r s.report }
     ensures { result ≡ on_top r s }
