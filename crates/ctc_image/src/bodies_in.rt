@@ -12,6 +12,7 @@ fn byte(b: &[u8], i: usize, k: usize) -> u8
     basics::byte_at(b, k + 7 * i)
 }
 
+#[tactic(auto, unfolding(crate::specs::Layout::channel_in))]
 fn channel(b: &[u8], i: usize) -> Channel
     requires { i < 4 }
     ensures { result ≡ channel_in b.now i }
@@ -30,6 +31,7 @@ fn channel(b: &[u8], i: usize) -> Channel
     }
 }
 
+#[tactic(auto, unfolding(crate::specs::Layout::told_ctc))]
 pub(crate) fn record(b: &[u8], l: &[u8]) -> Ctc
     ensures { result ≡ told_ctc b.now l.now }
 {
@@ -41,6 +43,7 @@ pub(crate) fn record(b: &[u8], l: &[u8]) -> Ctc
     }
 }
 
+#[tactic(auto, unfolding(crate::specs::Layout::channel_clear))]
 fn channel_clear(b: &[u8], i: usize) -> bool
     requires { i < 4 }
     ensures { result ≡ channel_clear b.now i }
@@ -48,6 +51,7 @@ fn channel_clear(b: &[u8], i: usize) -> bool
     (byte(b, i, 4) < 8) & (byte(b, i, 5) < 2) & (byte(b, i, 6) < 2)
 }
 
+#[tactic(auto, unfolding(crate::specs::Layout::clear_ctc))]
 pub(crate) fn clear(b: &[u8], l: &[u8]) -> bool
     ensures { result ≡ clear_ctc b.now l.now }
 {

@@ -11,6 +11,7 @@ fn flags(c: Channel) -> u8
     basics::weight(c.loaded, 1) + basics::weight(c.awaits, 2) + basics::weight(c.running, 4)
 }
 
+#[tactic(auto, unfolding(crate::specs::Layout::channel_bytes))]
 fn channel(c: Channel) -> [u8; 7]
     ensures { result ≡ channel_bytes c }
 {
@@ -25,6 +26,7 @@ fn channel(c: Channel) -> [u8; 7]
     ]
 }
 
+#[tactic(auto, unfolding(crate::specs::Layout::rest_body))]
 fn lines(d: Ctc) -> [u8; 3]
     ensures { result ≡ rest_body d }
 {
@@ -32,6 +34,7 @@ fn lines(d: Ctc) -> [u8; 3]
 }
 
 // The image over the first bytes of a buffer.
+#[tactic(auto, unfolding(crate::specs::Layout::channel_bytes, crate::specs::Layout::channels_body, crate::specs::Layout::rest_body, crate::specs::Layout::image_ctc))]
 pub(crate) fn write(d: Ctc, buf: &mut [u8])
     requires { 41 ≤ length buf.old }
     ensures { buf.new ≡ image_ctc d ++ drop 41 buf.old }

@@ -45,6 +45,7 @@ fn refuse(code: u8) -> CtcRestored
 }
 
 // The record of two bodies, if their unused bits are 0 and it is sound.
+#[tactic(auto, unfolding(crate::specs::Image::accepted_ctc))]
 fn accept(channels: &[u8], lines: &[u8]) -> CtcRestored
     ensures { result ≡ accepted_ctc (clear_ctc channels.now lines.now) (told_ctc channels.now lines.now) }
 {
@@ -57,6 +58,7 @@ fn accept(channels: &[u8], lines: &[u8]) -> CtcRestored
 
 // Restores the record of an image. Codes: 7 for an image shorter than its table, 8 for another table, 7 for another length, 9 for bodies
 // that are not sound, else 0. A refused restore gives the fresh device.
+#[tactic(auto, unfolding(crate::specs::Image::restored_ctc))]
 pub fn restore(s: &[u8]) -> CtcRestored
     ensures { result ≡ restored_ctc s.now }
 {
