@@ -246,246 +246,246 @@ use Rattle.promises.proofs.Promise.{OneAnswer, one_answer, OneResult, one-result
 
 module _ {M : Type 1} (𝓤 : Ura M) where
   -- the calls that a host makes
-  pub rules-Source-of-port : OneResult 𝓤 rules·Source-of-port.ended (rules·Source-of-port.clauses 𝓤)
-  rules-Source-of-port = one-result 𝓤 rules·Source-of-port.ended (rules·Source-of-port.clauses 𝓤) (λ κs a. of_port (a.0 % 2)) refl
+  pub rules-Source-of-port : OneResult 𝓤 rules·Source-of-port.ended rules·Source-of-port.clauses
+  rules-Source-of-port = one-result 𝓤 rules·Source-of-port.ended rules·Source-of-port.clauses (λ κs a. of_port (a.0 % 2)) refl
 
-  pub rules-Source-of-counter : OneResult 𝓤 rules·Source-of-counter.ended (rules·Source-of-counter.clauses 𝓤)
-  rules-Source-of-counter = one-result 𝓤 rules·Source-of-counter.ended (rules·Source-of-counter.clauses 𝓤) (λ κs a. of_counter (a.0 % 3)) refl
+  pub rules-Source-of-counter : OneResult 𝓤 rules·Source-of-counter.ended rules·Source-of-counter.clauses
+  rules-Source-of-counter = one-result 𝓤 rules·Source-of-counter.ended rules·Source-of-counter.clauses (λ κs a. of_counter (a.0 % 3)) refl
 
-  pub rules-Device-fresh : OneResult 𝓤 rules·Device-fresh.ended (rules·Device-fresh.clauses 𝓤)
-  rules-Device-fresh = one-result 𝓤 rules·Device-fresh.ended (rules·Device-fresh.clauses 𝓤) (λ κs a. fresh_of) refl
+  pub rules-Device-fresh : OneResult 𝓤 rules·Device-fresh.ended rules·Device-fresh.clauses
+  rules-Device-fresh = one-result 𝓤 rules·Device-fresh.ended rules·Device-fresh.clauses (λ κs a. fresh_of) refl
 
-  pub rules-Device-image-len : OneResult 𝓤 rules·Device-image-len.ended (rules·Device-image-len.clauses 𝓤)
-  rules-Device-image-len = one-result 𝓤 rules·Device-image-len.ended (rules·Device-image-len.clauses 𝓤) (λ κs a. image_len a.0) refl
+  pub rules-Device-image-len : OneResult 𝓤 rules·Device-image-len.ended rules·Device-image-len.clauses
+  rules-Device-image-len = one-result 𝓤 rules·Device-image-len.ended rules·Device-image-len.clauses (λ κs a. image_len a.0) refl
 
-  pub rules-Device-registers : OneResult 𝓤 rules·Device-registers.ended (rules·Device-registers.clauses 𝓤)
-  rules-Device-registers = one-result 𝓤 rules·Device-registers.ended (rules·Device-registers.clauses 𝓤) (λ κs a. register_count) refl
+  pub rules-Device-registers : OneResult 𝓤 rules·Device-registers.ended rules·Device-registers.clauses
+  rules-Device-registers = one-result 𝓤 rules·Device-registers.ended rules·Device-registers.clauses (λ κs a. register_count) refl
 
-  pub rules-Device-reset : OneResult 𝓤 rules·Device-reset.ended (rules·Device-reset.clauses 𝓤)
-  rules-Device-reset = one-result 𝓤 rules·Device-reset.ended (rules·Device-reset.clauses 𝓤) (λ κs a. reset a.0) refl
+  pub rules-Device-reset : OneResult 𝓤 rules·Device-reset.ended rules·Device-reset.clauses
+  rules-Device-reset = one-result 𝓤 rules·Device-reset.ended rules·Device-reset.clauses (λ κs a. reset a.0) refl
 
-  pub event-event : OneResult 𝓤 event·event.ended (event·event.clauses 𝓤)
-  event-event = one-result 𝓤 event·event.ended (event·event.clauses 𝓤) (λ κs a. event_of a.0 a.1.0) refl
+  pub event-event : OneResult 𝓤 event·event.ended event·event.clauses
+  event-event = one-result 𝓤 event·event.ended event·event.clauses (λ κs a. event_of a.0 a.1.0) refl
 
-  pub event-known : OneResult 𝓤 event·known.ended (event·known.clauses 𝓤)
-  event-known = one-result 𝓤 event·known.ended (event·known.clauses 𝓤) (λ κs a. known_of a.0 a.1.0) refl
+  pub event-known : OneResult 𝓤 event·known.ended event·known.clauses
+  event-known = one-result 𝓤 event·known.ended event·known.clauses (λ κs a. known_of a.0 a.1.0) refl
 
-  pub inplace-event-in-place : OneAnswer 𝓤 inplace·event-in-place.ended (inplace·event-in-place.clauses 𝓤) (λ κs. Answer × Device) (λ κs r x. (r, x.0.now))
+  pub inplace-event-in-place : OneAnswer 𝓤 inplace·event-in-place.ended inplace·event-in-place.clauses (λ κs. Answer × Device) (λ κs r x. (r, x.0.now))
   inplace-event-in-place =
-      one_answer 𝓤 inplace·event-in-place.ended (inplace·event-in-place.clauses 𝓤) (λ κs. Answer × Device) (λ κs r x. (r, x.0.now))
+      one_answer 𝓤 inplace·event-in-place.ended inplace·event-in-place.clauses (λ κs. Answer × Device) (λ κs r x. (r, x.0.now))
       (λ κs a. ((event_of a.0.now a.1.0).answer, (event_of a.0.now a.1.0).device))
       (λ 𝓛 at_mem run κs a g r x. fact_mono 𝓤 _ _ (λ p i. (p.0 i, p.1 i)))
 
-  pub inplace-lines : OneResult 𝓤 inplace·lines.ended (inplace·lines.clauses 𝓤)
+  pub inplace-lines : OneResult 𝓤 inplace·lines.ended inplace·lines.clauses
   inplace-lines =
-      one_answer 𝓤 inplace·lines.ended (inplace·lines.clauses 𝓤) (λ κs. Lines) (λ κs r x. r)
+      one_answer 𝓤 inplace·lines.ended inplace·lines.clauses (λ κs. Lines) (λ κs r x. r)
       (λ κs a. a.0.now.lines) (λ 𝓛 at_mem run κs a g r x. fact_mono 𝓤 _ _ (λ p. p.0))
 
-  pub bridge-through : OneResult 𝓤 bridge·through.ended (bridge·through.clauses 𝓤)
-  bridge-through = one-result 𝓤 bridge·through.ended (bridge·through.clauses 𝓤) (λ κs a. event_of a.0 a.1.0) refl
+  pub bridge-through : OneResult 𝓤 bridge·through.ended bridge·through.clauses
+  bridge-through = one-result 𝓤 bridge·through.ended bridge·through.clauses (λ κs a. event_of a.0 a.1.0) refl
 
-  pub row-event : OneAnswer 𝓤 row·event.ended (row·event.clauses 𝓤) (λ κs. RowAnswer × List Device) (λ κs r x. (r, x.0.now))
+  pub row-event : OneAnswer 𝓤 row·event.ended row·event.clauses (λ κs. RowAnswer × List Device) (λ κs r x. (r, x.0.now))
   row-event =
-      one_answer 𝓤 row·event.ended (row·event.clauses 𝓤) (λ κs. RowAnswer × List Device) (λ κs r x. (r, x.0.now))
+      one_answer 𝓤 row·event.ended row·event.clauses (λ κs. RowAnswer × List Device) (λ κs r x. (r, x.0.now))
       (λ κs a. (row_answer a.0.now a.1.0, row_after a.0.now a.1.0))
       (λ 𝓛 at_mem run κs a g r x. fact_mono 𝓤 _ _ (λ p i. (p.0 i, p.1 i)))
 
-  pub row-bridge-event : OneResult 𝓤 row-bridge·event.ended (row-bridge·event.clauses 𝓤)
-  row-bridge-event = one-result 𝓤 row-bridge·event.ended (row-bridge·event.clauses 𝓤) (λ κs a. boarded a.0 a.1.0 a.1.1.0) refl
+  pub row-bridge-event : OneResult 𝓤 row-bridge·event.ended row-bridge·event.clauses
+  row-bridge-event = one-result 𝓤 row-bridge·event.ended row-bridge·event.clauses (λ κs a. boarded a.0 a.1.0 a.1.1.0) refl
 
-  pub row-visit-visit : OneResult 𝓤 row-visit·visit.ended (row-visit·visit.clauses 𝓤)
-  row-visit-visit = one-result 𝓤 row-visit·visit.ended (row-visit·visit.clauses 𝓤) (λ κs a. visit_of a.0 a.1.0) refl
+  pub row-visit-visit : OneResult 𝓤 row-visit·visit.ended row-visit·visit.clauses
+  row-visit-visit = one-result 𝓤 row-visit·visit.ended row-visit·visit.clauses (λ κs a. visit_of a.0 a.1.0) refl
 
-  pub row-visit-looking : OneResult 𝓤 row-visit·looking.ended (row-visit·looking.clauses 𝓤)
-  row-visit-looking = one-result 𝓤 row-visit·looking.ended (row-visit·looking.clauses 𝓤) (λ κs a. looking_of a.0) refl
+  pub row-visit-looking : OneResult 𝓤 row-visit·looking.ended row-visit·looking.clauses
+  row-visit-looking = one-result 𝓤 row-visit·looking.ended row-visit·looking.clauses (λ κs a. looking_of a.0) refl
 
-  pub row-visit-acting : OneResult 𝓤 row-visit·acting.ended (row-visit·acting.clauses 𝓤)
-  row-visit-acting = one-result 𝓤 row-visit·acting.ended (row-visit·acting.clauses 𝓤) (λ κs a. acting_of a.0) refl
+  pub row-visit-acting : OneResult 𝓤 row-visit·acting.ended row-visit·acting.clauses
+  row-visit-acting = one-result 𝓤 row-visit·acting.ended row-visit·acting.clauses (λ κs a. acting_of a.0) refl
 
-  pub row-lines-event-of-line : OneResult 𝓤 row-lines·event-of-line.ended (row-lines·event-of-line.clauses 𝓤)
-  row-lines-event-of-line = one-result 𝓤 row-lines·event-of-line.ended (row-lines·event-of-line.clauses 𝓤) (λ κs a. row_line a.0) refl
+  pub row-lines-event-of-line : OneResult 𝓤 row-lines·event-of-line.ended row-lines·event-of-line.clauses
+  row-lines-event-of-line = one-result 𝓤 row-lines·event-of-line.ended row-lines·event-of-line.clauses (λ κs a. row_line a.0) refl
 
-  pub row-lines-head-text : OneResult 𝓤 row-lines·head-text.ended (row-lines·head-text.clauses 𝓤)
-  row-lines-head-text = one-result 𝓤 row-lines·head-text.ended (row-lines·head-text.clauses 𝓤) (λ κs a. typed no_text (head_text a.0)) refl
+  pub row-lines-head-text : OneResult 𝓤 row-lines·head-text.ended row-lines·head-text.clauses
+  row-lines-head-text = one-result 𝓤 row-lines·head-text.ended row-lines·head-text.clauses (λ κs a. typed no_text (head_text a.0)) refl
 
-  pub row-lines-device-text : OneResult 𝓤 row-lines·device-text.ended (row-lines·device-text.clauses 𝓤)
-  row-lines-device-text = one-result 𝓤 row-lines·device-text.ended (row-lines·device-text.clauses 𝓤) (λ κs a. typed no_text (device_text a.0)) refl
+  pub row-lines-device-text : OneResult 𝓤 row-lines·device-text.ended row-lines·device-text.clauses
+  row-lines-device-text = one-result 𝓤 row-lines·device-text.ended row-lines·device-text.clauses (λ κs a. typed no_text (device_text a.0)) refl
 
-  pub texts-levels : OneResult 𝓤 texts·levels.ended (texts·levels.clauses 𝓤)
-  texts-levels = one-result 𝓤 texts·levels.ended (texts·levels.clauses 𝓤) (λ κs a. typed a.0 (levels_text a.1.0)) refl
+  pub texts-levels : OneResult 𝓤 texts·levels.ended texts·levels.clauses
+  texts-levels = one-result 𝓤 texts·levels.ended texts·levels.clauses (λ κs a. typed a.0 (levels_text a.1.0)) refl
 
-  pub image-save : OneAnswer 𝓤 image·save.ended (image·save.clauses 𝓤) (λ κs. ℕ × List ℕ) (λ κs r x. (r, x.1.0.now))
+  pub image-save : OneAnswer 𝓤 image·save.ended image·save.clauses (λ κs. ℕ × List ℕ) (λ κs r x. (r, x.1.0.now))
   image-save =
-      one_answer 𝓤 image·save.ended (image·save.clauses 𝓤) (λ κs. ℕ × List ℕ) (λ κs r x. (r, x.1.0.now))
+      one_answer 𝓤 image·save.ended image·save.clauses (λ κs. ℕ × List ℕ) (λ κs r x. (r, x.1.0.now))
       (λ κs a. (save_code a.0 (length a.1.0.now), saved_of a.0 a.1.0.now))
       (λ 𝓛 at_mem run κs a g r x. fact_mono 𝓤 _ _ (λ p i. (p.0 i, p.1 i)))
 
-  pub image-restore : OneResult 𝓤 image·restore.ended (image·restore.clauses 𝓤)
-  image-restore = one-result 𝓤 image·restore.ended (image·restore.clauses 𝓤) (λ κs a. restored_of a.0.now) refl
+  pub image-restore : OneResult 𝓤 image·restore.ended image·restore.clauses
+  image-restore = one-result 𝓤 image·restore.ended image·restore.clauses (λ κs a. restored_of a.0.now) refl
 
-  pub z8536-Z8536-fresh : OneResult 𝓤 z8536·Z8536-fresh.ended (z8536·Z8536-fresh.clauses 𝓤)
-  z8536-Z8536-fresh = one-result 𝓤 z8536·Z8536-fresh.ended (z8536·Z8536-fresh.clauses 𝓤) (λ κs a. fresh_z8536) refl
+  pub z8536-Z8536-fresh : OneResult 𝓤 z8536·Z8536-fresh.ended z8536·Z8536-fresh.clauses
+  z8536-Z8536-fresh = one-result 𝓤 z8536·Z8536-fresh.ended z8536·Z8536-fresh.clauses (λ κs a. fresh_z8536) refl
 
-  pub z8536-sound : OneResult 𝓤 z8536·sound.ended (z8536·sound.clauses 𝓤)
-  z8536-sound = one-result 𝓤 z8536·sound.ended (z8536·sound.clauses 𝓤) (λ κs a. sound_z8536 a.0) refl
+  pub z8536-sound : OneResult 𝓤 z8536·sound.ended z8536·sound.clauses
+  z8536-sound = one-result 𝓤 z8536·sound.ended z8536·sound.clauses (λ κs a. sound_z8536 a.0) refl
 
-  pub event-z8536-event : OneResult 𝓤 event-z8536·event.ended (event-z8536·event.clauses 𝓤)
-  event-z8536-event = one-result 𝓤 event-z8536·event.ended (event-z8536·event.clauses 𝓤) (λ κs a. event_z8536 a.0 a.1.0) refl
+  pub event-z8536-event : OneResult 𝓤 event-z8536·event.ended event-z8536·event.clauses
+  event-z8536-event = one-result 𝓤 event-z8536·event.ended event-z8536·event.clauses (λ κs a. event_z8536 a.0 a.1.0) refl
 
-  pub ctc-rules-Ctc-fresh : OneResult 𝓤 ctc-rules·Ctc-fresh.ended (ctc-rules·Ctc-fresh.clauses 𝓤)
-  ctc-rules-Ctc-fresh = one-result 𝓤 ctc-rules·Ctc-fresh.ended (ctc-rules·Ctc-fresh.clauses 𝓤) (λ κs a. fresh_ctc) refl
+  pub ctc-rules-Ctc-fresh : OneResult 𝓤 ctc-rules·Ctc-fresh.ended ctc-rules·Ctc-fresh.clauses
+  ctc-rules-Ctc-fresh = one-result 𝓤 ctc-rules·Ctc-fresh.ended ctc-rules·Ctc-fresh.clauses (λ κs a. fresh_ctc) refl
 
-  pub ctc-rules-sound : OneResult 𝓤 ctc-rules·sound.ended (ctc-rules·sound.clauses 𝓤)
-  ctc-rules-sound = one-result 𝓤 ctc-rules·sound.ended (ctc-rules·sound.clauses 𝓤) (λ κs a. sound_ctc a.0) refl
+  pub ctc-rules-sound : OneResult 𝓤 ctc-rules·sound.ended ctc-rules·sound.clauses
+  ctc-rules-sound = one-result 𝓤 ctc-rules·sound.ended ctc-rules·sound.clauses (λ κs a. sound_ctc a.0) refl
 
-  pub ctc-event-event : OneResult 𝓤 ctc-event·event.ended (ctc-event·event.clauses 𝓤)
-  ctc-event-event = one-result 𝓤 ctc-event·event.ended (ctc-event·event.clauses 𝓤) (λ κs a. event_ctc a.0 a.1.0) refl
+  pub ctc-event-event : OneResult 𝓤 ctc-event·event.ended ctc-event·event.clauses
+  ctc-event-event = one-result 𝓤 ctc-event·event.ended ctc-event·event.clauses (λ κs a. event_ctc a.0 a.1.0) refl
 
-  pub ctc-event-end-of-service : OneResult 𝓤 ctc-event·end-of-service.ended (ctc-event·end-of-service.clauses 𝓤)
-  ctc-event-end-of-service = one-result 𝓤 ctc-event·end-of-service.ended (ctc-event·end-of-service.clauses 𝓤) (λ κs a. end_of_service a.0) refl
+  pub ctc-event-end-of-service : OneResult 𝓤 ctc-event·end-of-service.ended ctc-event·end-of-service.clauses
+  ctc-event-end-of-service = one-result 𝓤 ctc-event·end-of-service.ended ctc-event·end-of-service.clauses (λ κs a. end_of_service a.0) refl
 
-  pub ctc-event-lines : OneResult 𝓤 ctc-event·lines.ended (ctc-event·lines.clauses 𝓤)
-  ctc-event-lines = one-result 𝓤 ctc-event·lines.ended (ctc-event·lines.clauses 𝓤) (λ κs a. lines_ctc a.0) refl
+  pub ctc-event-lines : OneResult 𝓤 ctc-event·lines.ended ctc-event·lines.clauses
+  ctc-event-lines = one-result 𝓤 ctc-event·lines.ended ctc-event·lines.clauses (λ κs a. lines_ctc a.0) refl
 
-  pub host-wolfscarer-length : OneResult 𝓤 host·length.ended (host·length.clauses 𝓤)
-  host-wolfscarer-length = one-result 𝓤 host·length.ended (host·length.clauses 𝓤) (λ κs a. length_at a.0) refl
+  pub host-wolfscarer-length : OneResult 𝓤 host·length.ended host·length.clauses
+  host-wolfscarer-length = one-result 𝓤 host·length.ended host·length.clauses (λ κs a. length_at a.0) refl
 
-  pub host-wolfscarer-z8036-fresh : OneAnswer 𝓤 host·z8036-fresh.ended (host·z8036-fresh.clauses 𝓤) (λ κs. ℕ × List ℕ) (λ κs r x. (r, x.0.now))
+  pub host-wolfscarer-z8036-fresh : OneAnswer 𝓤 host·z8036-fresh.ended host·z8036-fresh.clauses (λ κs. ℕ × List ℕ) (λ κs r x. (r, x.0.now))
   host-wolfscarer-z8036-fresh =
-      one_answer 𝓤 host·z8036-fresh.ended (host·z8036-fresh.clauses 𝓤) (λ κs. ℕ × List ℕ) (λ κs r x. (r, x.0.now))
+      one_answer 𝓤 host·z8036-fresh.ended host·z8036-fresh.clauses (λ κs. ℕ × List ℕ) (λ κs r x. (r, x.0.now))
       (λ κs a. (fresh_code (image_of fresh_of) a.0.now, fresh_state (image_of fresh_of) a.0.now))
       (λ 𝓛 at_mem run κs a g r x. fact_mono 𝓤 _ _ (λ p i. (p.0 i, p.1 i)))
 
-  pub host-wolfscarer-z8036-event : OneAnswer 𝓤 host·z8036-event.ended (host·z8036-event.clauses 𝓤) (λ κs. Called) (λ κs r x. called r x.0.now x.1.1.1.1.1.0.now)
+  pub host-wolfscarer-z8036-event : OneAnswer 𝓤 host·z8036-event.ended host·z8036-event.clauses (λ κs. Called) (λ κs r x. called r x.0.now x.1.1.1.1.1.0.now)
   host-wolfscarer-z8036-event =
-      one_answer 𝓤 host·z8036-event.ended (host·z8036-event.clauses 𝓤) (λ κs. Called) (λ κs r x. called r x.0.now x.1.1.1.1.1.0.now)
+      one_answer 𝓤 host·z8036-event.ended host·z8036-event.clauses (λ κs. Called) (λ κs r x. called r x.0.now x.1.1.1.1.1.0.now)
       (λ κs a. host_event a.0.now (of a.1.0 a.1.1.0 a.1.1.1.0 a.1.1.1.1.0) a.1.1.1.1.1.0.now)
       (λ 𝓛 at_mem run κs a g r x. fact_mono 𝓤 _ _ (λ p. p))
 
-  pub host-wolfscarer-z8036-lines : OneAnswer 𝓤 host·z8036-lines.ended (host·z8036-lines.clauses 𝓤) (λ κs. ℕ × List ℕ) (λ κs r x. (r, x.1.0.now))
+  pub host-wolfscarer-z8036-lines : OneAnswer 𝓤 host·z8036-lines.ended host·z8036-lines.clauses (λ κs. ℕ × List ℕ) (λ κs r x. (r, x.1.0.now))
   host-wolfscarer-z8036-lines =
-      one_answer 𝓤 host·z8036-lines.ended (host·z8036-lines.clauses 𝓤) (λ κs. ℕ × List ℕ) (λ κs r x. (r, x.1.0.now))
+      one_answer 𝓤 host·z8036-lines.ended host·z8036-lines.clauses (λ κs. ℕ × List ℕ) (λ κs r x. (r, x.1.0.now))
       (λ κs a. ((host_lines a.0.now a.1.0.now).code, (host_lines a.0.now a.1.0.now).answer))
       (λ 𝓛 at_mem run κs a g r x. fact_mono 𝓤 _ _ (λ p i. ((p i).code, (p i).answer)))
 
-  pub host-wolfscarer-z8536-fresh : OneAnswer 𝓤 host·z8536-fresh.ended (host·z8536-fresh.clauses 𝓤) (λ κs. ℕ × List ℕ) (λ κs r x. (r, x.0.now))
+  pub host-wolfscarer-z8536-fresh : OneAnswer 𝓤 host·z8536-fresh.ended host·z8536-fresh.clauses (λ κs. ℕ × List ℕ) (λ κs r x. (r, x.0.now))
   host-wolfscarer-z8536-fresh =
-      one_answer 𝓤 host·z8536-fresh.ended (host·z8536-fresh.clauses 𝓤) (λ κs. ℕ × List ℕ) (λ κs r x. (r, x.0.now))
+      one_answer 𝓤 host·z8536-fresh.ended host·z8536-fresh.clauses (λ κs. ℕ × List ℕ) (λ κs r x. (r, x.0.now))
       (λ κs a. (fresh_code (image_z8536 fresh_z8536) a.0.now, fresh_state (image_z8536 fresh_z8536) a.0.now))
       (λ 𝓛 at_mem run κs a g r x. fact_mono 𝓤 _ _ (λ p i. (p.0 i, p.1 i)))
 
-  pub host-wolfscarer-z8536-event : OneAnswer 𝓤 host·z8536-event.ended (host·z8536-event.clauses 𝓤) (λ κs. Called) (λ κs r x. called r x.0.now x.1.1.1.1.1.0.now)
+  pub host-wolfscarer-z8536-event : OneAnswer 𝓤 host·z8536-event.ended host·z8536-event.clauses (λ κs. Called) (λ κs r x. called r x.0.now x.1.1.1.1.1.0.now)
   host-wolfscarer-z8536-event =
-      one_answer 𝓤 host·z8536-event.ended (host·z8536-event.clauses 𝓤) (λ κs. Called) (λ κs r x. called r x.0.now x.1.1.1.1.1.0.now)
+      one_answer 𝓤 host·z8536-event.ended host·z8536-event.clauses (λ κs. Called) (λ κs r x. called r x.0.now x.1.1.1.1.1.0.now)
       (λ κs a. host_event_z8536 a.0.now (of a.1.0 a.1.1.0 a.1.1.1.0 a.1.1.1.1.0) a.1.1.1.1.1.0.now)
       (λ 𝓛 at_mem run κs a g r x. fact_mono 𝓤 _ _ (λ p. p))
 
-  pub host-wolfscarer-z8536-lines : OneAnswer 𝓤 host·z8536-lines.ended (host·z8536-lines.clauses 𝓤) (λ κs. ℕ × List ℕ) (λ κs r x. (r, x.1.0.now))
+  pub host-wolfscarer-z8536-lines : OneAnswer 𝓤 host·z8536-lines.ended host·z8536-lines.clauses (λ κs. ℕ × List ℕ) (λ κs r x. (r, x.1.0.now))
   host-wolfscarer-z8536-lines =
-      one_answer 𝓤 host·z8536-lines.ended (host·z8536-lines.clauses 𝓤) (λ κs. ℕ × List ℕ) (λ κs r x. (r, x.1.0.now))
+      one_answer 𝓤 host·z8536-lines.ended host·z8536-lines.clauses (λ κs. ℕ × List ℕ) (λ κs r x. (r, x.1.0.now))
       (λ κs a. ((host_lines_z8536 a.0.now a.1.0.now).code, (host_lines_z8536 a.0.now a.1.0.now).answer))
       (λ 𝓛 at_mem run κs a g r x. fact_mono 𝓤 _ _ (λ p i. ((p i).code, (p i).answer)))
 
-  pub host-wolfscarer-ctc-fresh : OneAnswer 𝓤 host·ctc-fresh.ended (host·ctc-fresh.clauses 𝓤) (λ κs. ℕ × List ℕ) (λ κs r x. (r, x.0.now))
+  pub host-wolfscarer-ctc-fresh : OneAnswer 𝓤 host·ctc-fresh.ended host·ctc-fresh.clauses (λ κs. ℕ × List ℕ) (λ κs r x. (r, x.0.now))
   host-wolfscarer-ctc-fresh =
-      one_answer 𝓤 host·ctc-fresh.ended (host·ctc-fresh.clauses 𝓤) (λ κs. ℕ × List ℕ) (λ κs r x. (r, x.0.now))
+      one_answer 𝓤 host·ctc-fresh.ended host·ctc-fresh.clauses (λ κs. ℕ × List ℕ) (λ κs r x. (r, x.0.now))
       (λ κs a. (fresh_code (image_ctc fresh_ctc) a.0.now, fresh_state (image_ctc fresh_ctc) a.0.now))
       (λ 𝓛 at_mem run κs a g r x. fact_mono 𝓤 _ _ (λ p i. (p.0 i, p.1 i)))
 
-  pub host-wolfscarer-ctc-event : OneAnswer 𝓤 host·ctc-event.ended (host·ctc-event.clauses 𝓤) (λ κs. Called) (λ κs r x. called r x.0.now x.1.1.1.1.1.0.now)
+  pub host-wolfscarer-ctc-event : OneAnswer 𝓤 host·ctc-event.ended host·ctc-event.clauses (λ κs. Called) (λ κs r x. called r x.0.now x.1.1.1.1.1.0.now)
   host-wolfscarer-ctc-event =
-      one_answer 𝓤 host·ctc-event.ended (host·ctc-event.clauses 𝓤) (λ κs. Called) (λ κs r x. called r x.0.now x.1.1.1.1.1.0.now)
+      one_answer 𝓤 host·ctc-event.ended host·ctc-event.clauses (λ κs. Called) (λ κs r x. called r x.0.now x.1.1.1.1.1.0.now)
       (λ κs a. host_event_ctc a.0.now (of a.1.0 a.1.1.0 a.1.1.1.0 a.1.1.1.1.0) a.1.1.1.1.1.0.now)
       (λ 𝓛 at_mem run κs a g r x. fact_mono 𝓤 _ _ (λ p. p))
 
-  pub host-wolfscarer-ctc-end-of-service : OneAnswer 𝓤 host·ctc-end-of-service.ended (host·ctc-end-of-service.clauses 𝓤) (λ κs. Called)
+  pub host-wolfscarer-ctc-end-of-service : OneAnswer 𝓤 host·ctc-end-of-service.ended host·ctc-end-of-service.clauses (λ κs. Called)
       (λ κs r x. called r x.0.now x.1.0.now)
   host-wolfscarer-ctc-end-of-service =
-      one_answer 𝓤 host·ctc-end-of-service.ended (host·ctc-end-of-service.clauses 𝓤) (λ κs. Called) (λ κs r x. called r x.0.now x.1.0.now)
+      one_answer 𝓤 host·ctc-end-of-service.ended host·ctc-end-of-service.clauses (λ κs. Called) (λ κs r x. called r x.0.now x.1.0.now)
       (λ κs a. host_end_ctc a.0.now a.1.0.now) (λ 𝓛 at_mem run κs a g r x. fact_mono 𝓤 _ _ (λ p. p))
 
-  pub host-wolfscarer-ctc-lines : OneAnswer 𝓤 host·ctc-lines.ended (host·ctc-lines.clauses 𝓤) (λ κs. ℕ × List ℕ) (λ κs r x. (r, x.1.0.now))
+  pub host-wolfscarer-ctc-lines : OneAnswer 𝓤 host·ctc-lines.ended host·ctc-lines.clauses (λ κs. ℕ × List ℕ) (λ κs r x. (r, x.1.0.now))
   host-wolfscarer-ctc-lines =
-      one_answer 𝓤 host·ctc-lines.ended (host·ctc-lines.clauses 𝓤) (λ κs. ℕ × List ℕ) (λ κs r x. (r, x.1.0.now))
+      one_answer 𝓤 host·ctc-lines.ended host·ctc-lines.clauses (λ κs. ℕ × List ℕ) (λ κs r x. (r, x.1.0.now))
       (λ κs a. ((host_lines_ctc a.0.now a.1.0.now).code, (host_lines_ctc a.0.now a.1.0.now).answer))
       (λ 𝓛 at_mem run κs a g r x. fact_mono 𝓤 _ _ (λ p i. ((p i).code, (p i).answer)))
 
-  pub ctc-place-event-in-place : OneAnswer 𝓤 ctc-place·event-in-place.ended (ctc-place·event-in-place.clauses 𝓤) (λ κs. CtcAnswer × Ctc) (λ κs r x. (r, x.0.now))
+  pub ctc-place-event-in-place : OneAnswer 𝓤 ctc-place·event-in-place.ended ctc-place·event-in-place.clauses (λ κs. CtcAnswer × Ctc) (λ κs r x. (r, x.0.now))
   ctc-place-event-in-place =
-      one_answer 𝓤 ctc-place·event-in-place.ended (ctc-place·event-in-place.clauses 𝓤) (λ κs. CtcAnswer × Ctc) (λ κs r x. (r, x.0.now))
+      one_answer 𝓤 ctc-place·event-in-place.ended ctc-place·event-in-place.clauses (λ κs. CtcAnswer × Ctc) (λ κs r x. (r, x.0.now))
       (λ κs a. ((event_ctc a.0.now a.1.0).answer, (event_ctc a.0.now a.1.0).device))
       (λ 𝓛 at_mem run κs a g r x. fact_mono 𝓤 _ _ (λ p i. (p.0 i, p.1 i)))
 
-  pub ctc-place-end-of-service-in-place : OneAnswer 𝓤 ctc-place·end-of-service-in-place.ended (ctc-place·end-of-service-in-place.clauses 𝓤) (λ κs. CtcAnswer × Ctc)
+  pub ctc-place-end-of-service-in-place : OneAnswer 𝓤 ctc-place·end-of-service-in-place.ended ctc-place·end-of-service-in-place.clauses (λ κs. CtcAnswer × Ctc)
       (λ κs r x. (r, x.0.now))
   ctc-place-end-of-service-in-place =
-      one_answer 𝓤 ctc-place·end-of-service-in-place.ended (ctc-place·end-of-service-in-place.clauses 𝓤) (λ κs. CtcAnswer × Ctc) (λ κs r x. (r, x.0.now))
+      one_answer 𝓤 ctc-place·end-of-service-in-place.ended ctc-place·end-of-service-in-place.clauses (λ κs. CtcAnswer × Ctc) (λ κs r x. (r, x.0.now))
       (λ κs a. ((end_of_service a.0.now).answer, (end_of_service a.0.now).device))
       (λ 𝓛 at_mem run κs a g r x. fact_mono 𝓤 _ _ (λ p i. (p.0 i, p.1 i)))
 
-  pub ctc-image-save : OneAnswer 𝓤 ctc-image·save.ended (ctc-image·save.clauses 𝓤) (λ κs. ℕ × List ℕ) (λ κs r x. (r, x.1.0.now))
+  pub ctc-image-save : OneAnswer 𝓤 ctc-image·save.ended ctc-image·save.clauses (λ κs. ℕ × List ℕ) (λ κs r x. (r, x.1.0.now))
   ctc-image-save =
-      one_answer 𝓤 ctc-image·save.ended (ctc-image·save.clauses 𝓤) (λ κs. ℕ × List ℕ) (λ κs r x. (r, x.1.0.now))
+      one_answer 𝓤 ctc-image·save.ended ctc-image·save.clauses (λ κs. ℕ × List ℕ) (λ κs r x. (r, x.1.0.now))
       (λ κs a. (save_code_ctc a.0 (length a.1.0.now), saved_ctc a.0 a.1.0.now))
       (λ 𝓛 at_mem run κs a g r x. fact_mono 𝓤 _ _ (λ p i. (p.0 i, p.1 i)))
 
-  pub ctc-image-restore : OneResult 𝓤 ctc-image·restore.ended (ctc-image·restore.clauses 𝓤)
-  ctc-image-restore = one-result 𝓤 ctc-image·restore.ended (ctc-image·restore.clauses 𝓤) (λ κs a. restored_ctc a.0.now) refl
+  pub ctc-image-restore : OneResult 𝓤 ctc-image·restore.ended ctc-image·restore.clauses
+  ctc-image-restore = one-result 𝓤 ctc-image·restore.ended ctc-image·restore.clauses (λ κs a. restored_ctc a.0.now) refl
 
-  pub ctc-lines-outcome : OneResult 𝓤 ctc-lines·outcome.ended (ctc-lines·outcome.clauses 𝓤)
-  ctc-lines-outcome = one-result 𝓤 ctc-lines·outcome.ended (ctc-lines·outcome.clauses 𝓤) (λ κs a. outcome_kept a.0 a.1.0) refl
+  pub ctc-lines-outcome : OneResult 𝓤 ctc-lines·outcome.ended ctc-lines·outcome.clauses
+  ctc-lines-outcome = one-result 𝓤 ctc-lines·outcome.ended ctc-lines·outcome.clauses (λ κs a. outcome_kept a.0 a.1.0) refl
 
-  pub ctc-lines-answer-text : OneResult 𝓤 ctc-lines·answer-text.ended (ctc-lines·answer-text.clauses 𝓤)
-  ctc-lines-answer-text = one-result 𝓤 ctc-lines·answer-text.ended (ctc-lines·answer-text.clauses 𝓤) (λ κs a. typed no_text (ctc_text a.0)) refl
+  pub ctc-lines-answer-text : OneResult 𝓤 ctc-lines·answer-text.ended ctc-lines·answer-text.clauses
+  ctc-lines-answer-text = one-result 𝓤 ctc-lines·answer-text.ended ctc-lines·answer-text.clauses (λ κs a. typed no_text (ctc_text a.0)) refl
 
-  pub ctc-words-line : OneResult 𝓤 ctc-words·line.ended (ctc-words·line.clauses 𝓤)
-  ctc-words-line = one-result 𝓤 ctc-words·line.ended (ctc-words·line.clauses 𝓤) (λ κs a. typed no_text (shown_ctc a.0 a.1.0)) refl
+  pub ctc-words-line : OneResult 𝓤 ctc-words·line.ended ctc-words·line.clauses
+  ctc-words-line = one-result 𝓤 ctc-words·line.ended ctc-words·line.clauses (λ κs a. typed no_text (shown_ctc a.0 a.1.0)) refl
 
-  pub image-save-z8536 : OneAnswer 𝓤 image·save-z8536.ended (image·save-z8536.clauses 𝓤) (λ κs. ℕ × List ℕ) (λ κs r x. (r, x.1.0.now))
+  pub image-save-z8536 : OneAnswer 𝓤 image·save-z8536.ended image·save-z8536.clauses (λ κs. ℕ × List ℕ) (λ κs r x. (r, x.1.0.now))
   image-save-z8536 =
-      one_answer 𝓤 image·save-z8536.ended (image·save-z8536.clauses 𝓤) (λ κs. ℕ × List ℕ) (λ κs r x. (r, x.1.0.now))
+      one_answer 𝓤 image·save-z8536.ended image·save-z8536.clauses (λ κs. ℕ × List ℕ) (λ κs r x. (r, x.1.0.now))
       (λ κs a. (save_code_z8536 a.0 (length a.1.0.now), saved_z8536 a.0 a.1.0.now))
       (λ 𝓛 at_mem run κs a g r x. fact_mono 𝓤 _ _ (λ p i. (p.0 i, p.1 i)))
 
-  pub image-restore-z8536 : OneResult 𝓤 image·restore-z8536.ended (image·restore-z8536.clauses 𝓤)
-  image-restore-z8536 = one-result 𝓤 image·restore-z8536.ended (image·restore-z8536.clauses 𝓤) (λ κs a. restored_z8536 a.0.now) refl
+  pub image-restore-z8536 : OneResult 𝓤 image·restore-z8536.ended image·restore-z8536.clauses
+  image-restore-z8536 = one-result 𝓤 image·restore-z8536.ended image·restore-z8536.clauses (λ κs a. restored_z8536 a.0.now) refl
 
-  pub chip-Chip-of-z8036 : OneResult 𝓤 chip·Chip-of-z8036.ended (chip·Chip-of-z8036.clauses 𝓤)
-  chip-Chip-of-z8036 = one-result 𝓤 chip·Chip-of-z8036.ended (chip·Chip-of-z8036.clauses 𝓤) (λ κs a. of_z8036 a.0) refl
+  pub chip-Chip-of-z8036 : OneResult 𝓤 chip·Chip-of-z8036.ended chip·Chip-of-z8036.clauses
+  chip-Chip-of-z8036 = one-result 𝓤 chip·Chip-of-z8036.ended chip·Chip-of-z8036.clauses (λ κs a. of_z8036 a.0) refl
 
-  pub chip-Chip-of-z8536 : OneResult 𝓤 chip·Chip-of-z8536.ended (chip·Chip-of-z8536.clauses 𝓤)
-  chip-Chip-of-z8536 = one-result 𝓤 chip·Chip-of-z8536.ended (chip·Chip-of-z8536.clauses 𝓤) (λ κs a. of_z8536 a.0) refl
+  pub chip-Chip-of-z8536 : OneResult 𝓤 chip·Chip-of-z8536.ended chip·Chip-of-z8536.clauses
+  chip-Chip-of-z8536 = one-result 𝓤 chip·Chip-of-z8536.ended chip·Chip-of-z8536.clauses (λ κs a. of_z8536 a.0) refl
 
-  pub chip-Chip-core : OneResult 𝓤 chip·Chip-core.ended (chip·Chip-core.clauses 𝓤)
-  chip-Chip-core = one-result 𝓤 chip·Chip-core.ended (chip·Chip-core.clauses 𝓤) (λ κs a. core_of a.0) refl
+  pub chip-Chip-core : OneResult 𝓤 chip·Chip-core.ended chip·Chip-core.clauses
+  chip-Chip-core = one-result 𝓤 chip·Chip-core.ended chip·Chip-core.clauses (λ κs a. core_of a.0) refl
 
-  pub chip-event : OneResult 𝓤 chip·event.ended (chip·event.clauses 𝓤)
-  chip-event = one-result 𝓤 chip·event.ended (chip·event.clauses 𝓤) (λ κs a. event_chip a.0 a.1.0) refl
+  pub chip-event : OneResult 𝓤 chip·event.ended chip·event.clauses
+  chip-event = one-result 𝓤 chip·event.ended chip·event.clauses (λ κs a. event_chip a.0 a.1.0) refl
 
-  pub chip-sound : OneResult 𝓤 chip·sound.ended (chip·sound.clauses 𝓤)
-  chip-sound = one-result 𝓤 chip·sound.ended (chip·sound.clauses 𝓤) (λ κs a. sound_chip a.0) refl
+  pub chip-sound : OneResult 𝓤 chip·sound.ended chip·sound.clauses
+  chip-sound = one-result 𝓤 chip·sound.ended chip·sound.clauses (λ κs a. sound_chip a.0) refl
 
-  pub chip-known : OneResult 𝓤 chip·known.ended (chip·known.clauses 𝓤)
-  chip-known = one-result 𝓤 chip·known.ended (chip·known.clauses 𝓤) (λ κs a. known_chip a.0 a.1.0 a.1.1.0) refl
+  pub chip-known : OneResult 𝓤 chip·known.ended chip·known.clauses
+  chip-known = one-result 𝓤 chip·known.ended chip·known.clauses (λ κs a. known_chip a.0 a.1.0 a.1.1.0) refl
 
-  pub chip-image-image-len : OneResult 𝓤 chip-image·image-len.ended (chip-image·image-len.clauses 𝓤)
-  chip-image-image-len = one-result 𝓤 chip-image·image-len.ended (chip-image·image-len.clauses 𝓤) (λ κs a. length_chip a.0) refl
+  pub chip-image-image-len : OneResult 𝓤 chip-image·image-len.ended chip-image·image-len.clauses
+  chip-image-image-len = one-result 𝓤 chip-image·image-len.ended chip-image·image-len.clauses (λ κs a. length_chip a.0) refl
 
-  pub chip-image-save : OneAnswer 𝓤 chip-image·save.ended (chip-image·save.clauses 𝓤) (λ κs. ℕ × List ℕ) (λ κs r x. (r, x.1.0.now))
+  pub chip-image-save : OneAnswer 𝓤 chip-image·save.ended chip-image·save.clauses (λ κs. ℕ × List ℕ) (λ κs r x. (r, x.1.0.now))
   chip-image-save =
-      one_answer 𝓤 chip-image·save.ended (chip-image·save.clauses 𝓤) (λ κs. ℕ × List ℕ) (λ κs r x. (r, x.1.0.now))
+      one_answer 𝓤 chip-image·save.ended chip-image·save.clauses (λ κs. ℕ × List ℕ) (λ κs r x. (r, x.1.0.now))
       (λ κs a. (save_code_chip a.0 (length a.1.0.now), saved_chip a.0 a.1.0.now))
       (λ 𝓛 at_mem run κs a g r x. fact_mono 𝓤 _ _ (λ p i. (p.0 i, p.1 i)))
 
-  pub chip-image-restore : OneResult 𝓤 chip-image·restore.ended (chip-image·restore.clauses 𝓤)
-  chip-image-restore = one-result 𝓤 chip-image·restore.ended (chip-image·restore.clauses 𝓤) (λ κs a. restored_chip a.0.now) refl
+  pub chip-image-restore : OneResult 𝓤 chip-image·restore.ended chip-image·restore.clauses
+  chip-image-restore = one-result 𝓤 chip-image·restore.ended chip-image·restore.clauses (λ κs a. restored_chip a.0.now) refl
 
-  pub session-start : OneResult 𝓤 session·start.ended (session·start.clauses 𝓤)
-  session-start = one-result 𝓤 session·start.ended (session·start.clauses 𝓤) (λ κs a. start_of a.0) refl
+  pub session-start : OneResult 𝓤 session·start.ended session·start.clauses
+  session-start = one-result 𝓤 session·start.ended session·start.clauses (λ κs a. start_of a.0) refl
 
-  pub session-feed : OneAnswer 𝓤 session·feed.ended (session·feed.clauses 𝓤) (λ κs. Fed × List ℕ) (λ κs r x. (r, x.1.1.1.0.now))
+  pub session-feed : OneAnswer 𝓤 session·feed.ended session·feed.clauses (λ κs. Fed × List ℕ) (λ κs r x. (r, x.1.1.1.0.now))
   session-feed =
-      one_answer 𝓤 session·feed.ended (session·feed.clauses 𝓤) (λ κs. Fed × List ℕ) (λ κs r x. (r, x.1.1.1.0.now))
+      one_answer 𝓤 session·feed.ended session·feed.clauses (λ κs. Fed × List ℕ) (λ κs r x. (r, x.1.1.1.0.now))
       (λ κs a. (
         fed_by a.0 a.1.1.0 (bytes_read a.0 a.1.0.now a.1.1.0 a.1.1.1.0.now),
         answered
@@ -493,360 +493,360 @@ module _ {M : Type 1} (𝓤 : Ura M) where
       ))
       (λ 𝓛 at_mem run κs a g r x. two-clauses 𝓤 _ _ _ _ (λ p q i. (p i, q i)))
 
-  pub session-finish : OneAnswer 𝓤 session·finish.ended (session·finish.clauses 𝓤) (λ κs. Told × List ℕ) (λ κs r x. (r, x.1.0.now))
+  pub session-finish : OneAnswer 𝓤 session·finish.ended session·finish.clauses (λ κs. Told × List ℕ) (λ κs r x. (r, x.1.0.now))
   session-finish =
-      one_answer 𝓤 session·finish.ended (session·finish.clauses 𝓤) (λ κs. Told × List ℕ) (λ κs r x. (r, x.1.0.now))
+      one_answer 𝓤 session·finish.ended session·finish.clauses (λ κs. Told × List ℕ) (λ κs r x. (r, x.1.0.now))
       (λ κs a. (finished_by a.0 a.1.0.now, laid_of a.1.0.now 0 (answers_last a.0)))
       (λ 𝓛 at_mem run κs a g r x. two-clauses 𝓤 _ _ _ _ (λ p q i. (p i, q i)))
 
-  pub refusals-code-of : OneResult 𝓤 refusals·code-of.ended (refusals·code-of.clauses 𝓤)
-  refusals-code-of = one-result 𝓤 refusals·code-of.ended (refusals·code-of.clauses 𝓤) (λ κs a. code_of a.0 a.1.0) refl
+  pub refusals-code-of : OneResult 𝓤 refusals·code-of.ended refusals·code-of.clauses
+  refusals-code-of = one-result 𝓤 refusals·code-of.ended refusals·code-of.clauses (λ κs a. code_of a.0 a.1.0) refl
 
-  pub refusals-known-code : OneResult 𝓤 refusals·known-code.ended (refusals·known-code.clauses 𝓤)
-  refusals-known-code = one-result 𝓤 refusals·known-code.ended (refusals·known-code.clauses 𝓤) (λ κs a. known_code a.0 a.1.0) refl
+  pub refusals-known-code : OneResult 𝓤 refusals·known-code.ended refusals·known-code.clauses
+  refusals-known-code = one-result 𝓤 refusals·known-code.ended refusals·known-code.clauses (λ κs a. known_code a.0 a.1.0) refl
 
-  pub refusals-sound : OneResult 𝓤 refusals·sound.ended (refusals·sound.clauses 𝓤)
-  refusals-sound = one-result 𝓤 refusals·sound.ended (refusals·sound.clauses 𝓤) (λ κs a. sound_of a.0) refl
+  pub refusals-sound : OneResult 𝓤 refusals·sound.ended refusals·sound.clauses
+  refusals-sound = one-result 𝓤 refusals·sound.ended refusals·sound.clauses (λ κs a. sound_of a.0) refl
 
-  pub record-reset : OneResult 𝓤 record·reset.ended (record·reset.clauses 𝓤)
-  record-reset = one-result 𝓤 record·reset.ended (record·reset.clauses 𝓤) (λ κs a. reset_of a.0) refl
+  pub record-reset : OneResult 𝓤 record·reset.ended record·reset.clauses
+  record-reset = one-result 𝓤 record·reset.ended record·reset.clauses (λ κs a. reset_of a.0) refl
 
-  pub record_same : OneResult 𝓤 record·same.ended (record·same.clauses 𝓤)
-  record_same = one-result 𝓤 record·same.ended (record·same.clauses 𝓤) (λ κs a. same_of a.0 a.1.0) refl
+  pub record_same : OneResult 𝓤 record·same.ended record·same.clauses
+  record_same = one-result 𝓤 record·same.ended record·same.clauses (λ κs a. same_of a.0 a.1.0) refl
 
-  pub record-same-counter : OneResult 𝓤 record·same-counter.ended (record·same-counter.clauses 𝓤)
-  record-same-counter = one-result 𝓤 record·same-counter.ended (record·same-counter.clauses 𝓤) (λ κs a. same_counter a.0 a.1.0) refl
+  pub record-same-counter : OneResult 𝓤 record·same-counter.ended record·same-counter.clauses
+  record-same-counter = one-result 𝓤 record·same-counter.ended record·same-counter.clauses (λ κs a. same_counter a.0 a.1.0) refl
 
-  pub record-same-source : OneResult 𝓤 record·same-source.ended (record·same-source.clauses 𝓤)
-  record-same-source = one-result 𝓤 record·same-source.ended (record·same-source.clauses 𝓤) (λ κs a. same_source a.0 a.1.0) refl
+  pub record-same-source : OneResult 𝓤 record·same-source.ended record·same-source.clauses
+  record-same-source = one-result 𝓤 record·same-source.ended record·same-source.clauses (λ κs a. same_source a.0 a.1.0) refl
 
-  pub clocks-run : OneResult 𝓤 clocks·run.ended (clocks·run.clauses 𝓤)
-  clocks-run = one-result 𝓤 clocks·run.ended (clocks·run.clauses 𝓤) (λ κs a. ran_of a.0 a.1.0) refl
+  pub clocks-run : OneResult 𝓤 clocks·run.ended clocks·run.clauses
+  clocks-run = one-result 𝓤 clocks·run.ended clocks·run.clauses (λ κs a. ran_of a.0 a.1.0) refl
 
-  pub alone-alone : OneResult 𝓤 alone·alone.ended (alone·alone.clauses 𝓤)
-  alone-alone = one-result 𝓤 alone·alone.ended (alone·alone.clauses 𝓤) (λ κs a. alone_after a.0 a.1.0 a.1.1.0 a.1.1.1.0 a.1.1.1.1.0) refl
+  pub alone-alone : OneResult 𝓤 alone·alone.ended alone·alone.clauses
+  alone-alone = one-result 𝓤 alone·alone.ended alone·alone.clauses (λ κs a. alone_after a.0 a.1.0 a.1.1.0 a.1.1.1.0 a.1.1.1.1.0) refl
 
-  pub alone-placed : OneResult 𝓤 alone·placed.ended (alone·placed.clauses 𝓤)
-  alone-placed = one-result 𝓤 alone·placed.ended (alone·placed.clauses 𝓤) (λ κs a. placed_by a.0 a.1.0 a.1.1.0) refl
+  pub alone-placed : OneResult 𝓤 alone·placed.ended alone·placed.clauses
+  alone-placed = one-result 𝓤 alone·placed.ended alone·placed.clauses (λ κs a. placed_by a.0 a.1.0 a.1.1.0) refl
 
-  pub alone-matched : OneResult 𝓤 alone·matched.ended (alone·matched.clauses 𝓤)
+  pub alone-matched : OneResult 𝓤 alone·matched.ended alone·matched.clauses
   alone-matched =
-      one-result 𝓤 alone·matched.ended (alone·matched.clauses 𝓤)
+      one-result 𝓤 alone·matched.ended alone·matched.clauses
       (λ κs a. struck_by (hides_by a.0) (event_by a.0 a.1.0 a.1.1.0) a.1.1.1.0) refl
 
-  pub linked-linked : OneResult 𝓤 linked·linked.ended (linked·linked.clauses 𝓤)
-  linked-linked = one-result 𝓤 linked·linked.ended (linked·linked.clauses 𝓤) (λ κs a. iterate a.0 (paired_by a.1.0) (pair_of a.1.0)) refl
+  pub linked-linked : OneResult 𝓤 linked·linked.ended linked·linked.clauses
+  linked-linked = one-result 𝓤 linked·linked.ended linked·linked.clauses (λ κs a. iterate a.0 (paired_by a.1.0) (pair_of a.1.0)) refl
 
-  pub registers-kind-of : OneResult 𝓤 registers·kind-of.ended (registers·kind-of.clauses 𝓤)
-  registers-kind-of = one-result 𝓤 registers·kind-of.ended (registers·kind-of.clauses 𝓤) (λ κs a. kind_of a.0) refl
+  pub registers-kind-of : OneResult 𝓤 registers·kind-of.ended registers·kind-of.clauses
+  registers-kind-of = one-result 𝓤 registers·kind-of.ended registers·kind-of.clauses (λ κs a. kind_of a.0) refl
 
-  pub words-line : OneResult 𝓤 words·line.ended (words·line.clauses 𝓤)
-  words-line = one-result 𝓤 words·line.ended (words·line.clauses 𝓤) (λ κs a. typed no_text (shown_line a.0 a.1.0)) refl
+  pub words-line : OneResult 𝓤 words·line.ended words·line.clauses
+  words-line = one-result 𝓤 words·line.ended words·line.clauses (λ κs a. typed no_text (shown_line a.0 a.1.0)) refl
 
-  pub words-pointer-line : OneResult 𝓤 words·pointer-line.ended (words·pointer-line.clauses 𝓤)
-  words-pointer-line = one-result 𝓤 words·pointer-line.ended (words·pointer-line.clauses 𝓤) (λ κs a. typed no_text (pointer_line a.0 a.1.0)) refl
+  pub words-pointer-line : OneResult 𝓤 words·pointer-line.ended words·pointer-line.clauses
+  words-pointer-line = one-result 𝓤 words·pointer-line.ended words·pointer-line.clauses (λ κs a. typed no_text (pointer_line a.0 a.1.0)) refl
 
-  pub phrases-word : OneResult 𝓤 phrases·word.ended (phrases·word.clauses 𝓤)
-  phrases-word = one-result 𝓤 phrases·word.ended (phrases·word.clauses 𝓤) (λ κs a. typed a.0 a.1.0.now) refl
+  pub phrases-word : OneResult 𝓤 phrases·word.ended phrases·word.clauses
+  phrases-word = one-result 𝓤 phrases·word.ended phrases·word.clauses (λ κs a. typed a.0 a.1.0.now) refl
 
-  pub phrases-refusal-line : OneResult 𝓤 phrases·refusal-line.ended (phrases·refusal-line.clauses 𝓤)
+  pub phrases-refusal-line : OneResult 𝓤 phrases·refusal-line.ended phrases·refusal-line.clauses
   phrases-refusal-line =
-      one-result 𝓤 phrases·refusal-line.ended (phrases·refusal-line.clauses 𝓤)
+      one-result 𝓤 phrases·refusal-line.ended phrases·refusal-line.clauses
       (λ κs a. typed no_text (refusal a.0 a.1.0 a.1.1.0)) refl
 
-  pub phrases-trouble-line : OneResult 𝓤 phrases·trouble-line.ended (phrases·trouble-line.clauses 𝓤)
+  pub phrases-trouble-line : OneResult 𝓤 phrases·trouble-line.ended phrases·trouble-line.clauses
   phrases-trouble-line =
-      one-result 𝓤 phrases·trouble-line.ended (phrases·trouble-line.clauses 𝓤)
+      one-result 𝓤 phrases·trouble-line.ended phrases·trouble-line.clauses
       (λ κs a. typed no_text (trouble a.0 a.1.0)) refl
 
-  pub measure-Measure-start : OneResult 𝓤 measure·Measure-start.ended (measure·Measure-start.clauses 𝓤)
-  measure-Measure-start = one-result 𝓤 measure·Measure-start.ended (measure·Measure-start.clauses 𝓤) (λ κs a. measure_start) refl
+  pub measure-Measure-start : OneResult 𝓤 measure·Measure-start.ended measure·Measure-start.clauses
+  measure-Measure-start = one-result 𝓤 measure·Measure-start.ended measure·Measure-start.clauses (λ κs a. measure_start) refl
 
-  pub measure-table : OneResult 𝓤 measure·table.ended (measure·table.clauses 𝓤)
-  measure-table = one-result 𝓤 measure·table.ended (measure·table.clauses 𝓤) (λ κs a. table_of a.0) refl
+  pub measure-table : OneResult 𝓤 measure·table.ended measure·table.clauses
+  measure-table = one-result 𝓤 measure·table.ended measure·table.clauses (λ κs a. table_of a.0) refl
 
-  pub measure-event : OneResult 𝓤 measure·event.ended (measure·event.clauses 𝓤)
-  measure-event = one-result 𝓤 measure·event.ended (measure·event.clauses 𝓤) (λ κs a. measured_of a.0 a.1.0 a.1.1.0) refl
+  pub measure-event : OneResult 𝓤 measure·event.ended measure·event.clauses
+  measure-event = one-result 𝓤 measure·event.ended measure·event.clauses (λ κs a. measured_of a.0 a.1.0 a.1.1.0) refl
 
   -- the calls between the crates
-  pub basics-weight : OneResult 𝓤 basics·weight.ended (basics·weight.clauses 𝓤)
+  pub basics-weight : OneResult 𝓤 basics·weight.ended basics·weight.clauses
   basics-weight =
-      one_answer 𝓤 basics·weight.ended (basics·weight.clauses 𝓤) (λ κs. ℕ) (λ κs r x. r)
+      one_answer 𝓤 basics·weight.ended basics·weight.clauses (λ κs. ℕ) (λ κs r x. r)
       (λ κs a. cond a.0 a.1.0 0) (λ 𝓛 at_mem run κs a g r x. fact_mono 𝓤 _ _ (λ p. p.0))
 
-  pub basics-byte-in : OneResult 𝓤 basics·byte-in.ended (basics·byte-in.clauses 𝓤)
-  basics-byte-in = one-result 𝓤 basics·byte-in.ended (basics·byte-in.clauses 𝓤) (λ κs a. byte_in a.0 a.1.0) refl
+  pub basics-byte-in : OneResult 𝓤 basics·byte-in.ended basics·byte-in.clauses
+  basics-byte-in = one-result 𝓤 basics·byte-in.ended basics·byte-in.clauses (λ κs a. byte_in a.0 a.1.0) refl
 
-  pub basics-with-byte : OneResult 𝓤 basics·with-byte.ended (basics·with-byte.clauses 𝓤)
-  basics-with-byte = one-result 𝓤 basics·with-byte.ended (basics·with-byte.clauses 𝓤) (λ κs a. with_byte a.0 a.1.0 a.1.1.0) refl
+  pub basics-with-byte : OneResult 𝓤 basics·with-byte.ended basics·with-byte.clauses
+  basics-with-byte = one-result 𝓤 basics·with-byte.ended basics·with-byte.clauses (λ κs a. with_byte a.0 a.1.0 a.1.1.0) refl
 
-  pub basics-byte-at : OneResult 𝓤 basics·byte-at.ended (basics·byte-at.clauses 𝓤)
-  basics-byte-at = one-result 𝓤 basics·byte-at.ended (basics·byte-at.clauses 𝓤) (λ κs a. get_or a.0.now a.1.0 0) refl
+  pub basics-byte-at : OneResult 𝓤 basics·byte-at.ended basics·byte-at.clauses
+  basics-byte-at = one-result 𝓤 basics·byte-at.ended basics·byte-at.clauses (λ κs a. get_or a.0.now a.1.0 0) refl
 
-  pub basics-word-at : OneResult 𝓤 basics·word-at.ended (basics·word-at.clauses 𝓤)
+  pub basics-word-at : OneResult 𝓤 basics·word-at.ended basics·word-at.clauses
   basics-word-at =
-      one-result 𝓤 basics·word-at.ended (basics·word-at.clauses 𝓤)
+      one-result 𝓤 basics·word-at.ended basics·word-at.clauses
       (λ κs a. get_or a.0.now a.1.0 0 * 256 + get_or a.0.now a.1.1.0 0) refl
 
-  pub basics-lay : OneAnswer 𝓤 basics·lay.ended (basics·lay.clauses 𝓤) (λ κs. ℕ × List ℕ) (λ κs r x. (r, x.0.now))
+  pub basics-lay : OneAnswer 𝓤 basics·lay.ended basics·lay.clauses (λ κs. ℕ × List ℕ) (λ κs r x. (r, x.0.now))
   basics-lay =
-      one_answer 𝓤 basics·lay.ended (basics·lay.clauses 𝓤) (λ κs. ℕ × List ℕ) (λ κs r x. (r, x.0.now))
+      one_answer 𝓤 basics·lay.ended basics·lay.clauses (λ κs. ℕ × List ℕ) (λ κs r x. (r, x.0.now))
       (λ κs a. (cond (fits a.0.now a.1.0 a.1.1.0.now) (a.1.0 + length a.1.1.0.now) a.1.0, laid_of a.0.now a.1.0 a.1.1.0.now))
       (λ 𝓛 at_mem run κs a g r x. fact_mono 𝓤 _ _ (λ p i. (p.1 i, p.0 i)))
 
-  pub counters-output : OneResult 𝓤 counters·output.ended (counters·output.clauses 𝓤)
-  counters-output = one-result 𝓤 counters·output.ended (counters·output.clauses 𝓤) (λ κs a. output_of a.0 a.1.0) refl
+  pub counters-output : OneResult 𝓤 counters·output.ended counters·output.clauses
+  counters-output = one-result 𝓤 counters·output.ended counters·output.clauses (λ κs a. output_of a.0 a.1.0) refl
 
-  pub counters-turn : OneResult 𝓤 counters·turn.ended (counters·turn.clauses 𝓤)
+  pub counters-turn : OneResult 𝓤 counters·turn.ended counters·turn.clauses
   counters-turn =
-      one-result 𝓤 counters·turn.ended (counters·turn.clauses 𝓤)
+      one-result 𝓤 counters·turn.ended counters·turn.clauses
       (λ κs a.
       turn_of a.0 a.1.0
       (reach_of a.1.1.0 a.1.1.1.0 a.1.1.1.1.0 a.1.1.1.1.1.0 a.1.1.1.1.1.1.0) a.1.1.0) refl
 
-  pub counters-rests : OneResult 𝓤 counters·rests.ended (counters·rests.clauses 𝓤)
+  pub counters-rests : OneResult 𝓤 counters·rests.ended counters·rests.clauses
   counters-rests =
-      one-result 𝓤 counters·rests.ended (counters·rests.clauses 𝓤)
+      one-result 𝓤 counters·rests.ended counters·rests.clauses
       (λ κs a. rests_by a.0 (reach_of a.1.0 a.1.1.0 a.1.1.1.0 a.1.1.1.1.0 a.1.1.1.1.1.0) a.1.0) refl
 
-  pub counters-command : OneResult 𝓤 counters·command.ended (counters·command.clauses 𝓤)
-  counters-command = one-result 𝓤 counters·command.ended (counters·command.clauses 𝓤) (λ κs a. commanded_by a.0 a.1.0 a.1.1.0) refl
+  pub counters-command : OneResult 𝓤 counters·command.ended counters·command.clauses
+  counters-command = one-result 𝓤 counters·command.ended counters·command.clauses (λ κs a. commanded_by a.0 a.1.0 a.1.1.0) refl
 
-  pub image-same-bytes : OneResult 𝓤 image·same-bytes.ended (image·same-bytes.clauses 𝓤)
-  image-same-bytes = one-result 𝓤 image·same-bytes.ended (image·same-bytes.clauses 𝓤) (λ κs a. agree a.0.now a.1.0.now) refl
+  pub image-same-bytes : OneResult 𝓤 image·same-bytes.ended image·same-bytes.clauses
+  image-same-bytes = one-result 𝓤 image·same-bytes.ended image·same-bytes.clauses (λ κs a. agree a.0.now a.1.0.now) refl
 
-  pub image-in-device : OneResult 𝓤 image-in·device.ended (image-in·device.clauses 𝓤)
+  pub image-in-device : OneResult 𝓤 image-in·device.ended image-in·device.clauses
   image-in-device =
-      one-result 𝓤 image-in·device.ended (image-in·device.clauses 𝓤)
+      one-result 𝓤 image-in·device.ended image-in·device.clauses
       (λ κs a. record_in a.0 a.1.0.now a.1.1.0.now a.1.1.1.0.now a.1.1.1.1.0.now a.1.1.1.1.1.0.now) refl
 
-  pub image-in-clear : OneResult 𝓤 image-in·clear.ended (image-in·clear.clauses 𝓤)
+  pub image-in-clear : OneResult 𝓤 image-in·clear.ended image-in·clear.clauses
   image-in-clear =
-      one-result 𝓤 image-in·clear.ended (image-in·clear.clauses 𝓤)
+      one-result 𝓤 image-in·clear.ended image-in·clear.clauses
       (λ κs a.
       unused_clear a.0.now a.1.0.now a.1.1.0.now a.1.1.1.0.now a.1.1.1.1.0.now
       && states_agree a.0.now a.1.1.1.1.0.now) refl
 
-  pub image-out-bodies : OneResult 𝓤 image-out·bodies.ended (image-out·bodies.clauses 𝓤)
-  image-out-bodies = one-result 𝓤 image-out·bodies.ended (image-out·bodies.clauses 𝓤) (λ κs a. bodies_of a.0) refl
+  pub image-out-bodies : OneResult 𝓤 image-out·bodies.ended image-out·bodies.clauses
+  image-out-bodies = one-result 𝓤 image-out·bodies.ended image-out·bodies.clauses (λ κs a. bodies_of a.0) refl
 
-  pub input-start : OneResult 𝓤 input·start.ended (input·start.clauses 𝓤)
-  input-start = one-result 𝓤 input·start.ended (input·start.clauses 𝓤) (λ κs a. unread) refl
+  pub input-start : OneResult 𝓤 input·start.ended input·start.clauses
+  input-start = one-result 𝓤 input·start.ended input·start.clauses (λ κs a. unread) refl
 
-  pub interrupts-requester-of : OneResult 𝓤 interrupts·requester-of.ended (interrupts·requester-of.clauses 𝓤)
+  pub interrupts-requester-of : OneResult 𝓤 interrupts·requester-of.ended interrupts·requester-of.clauses
   interrupts-requester-of =
-      one_answer 𝓤 interrupts·requester-of.ended (interrupts·requester-of.clauses 𝓤) (λ κs. ℕ) (λ κs r x. r)
+      one_answer 𝓤 interrupts·requester-of.ended interrupts·requester-of.clauses (λ κs. ℕ) (λ κs r x. r)
       (λ κs a. requester a.0) (λ 𝓛 at_mem run κs a g r x. fact_mono 𝓤 _ _ (λ p. p.0))
 
-  pub interrupts-lines : OneResult 𝓤 interrupts·lines.ended (interrupts·lines.clauses 𝓤)
-  interrupts-lines = one-result 𝓤 interrupts·lines.ended (interrupts·lines.clauses 𝓤) (λ κs a. lines_of a.0) refl
+  pub interrupts-lines : OneResult 𝓤 interrupts·lines.ended interrupts·lines.clauses
+  interrupts-lines = one-result 𝓤 interrupts·lines.ended interrupts·lines.clauses (λ κs a. lines_of a.0) refl
 
-  pub interrupts-relined : OneResult 𝓤 interrupts·relined.ended (interrupts·relined.clauses 𝓤)
-  interrupts-relined = one-result 𝓤 interrupts·relined.ended (interrupts·relined.clauses 𝓤) (λ κs a. relined a.0) refl
+  pub interrupts-relined : OneResult 𝓤 interrupts·relined.ended interrupts·relined.clauses
+  interrupts-relined = one-result 𝓤 interrupts·relined.ended interrupts·relined.clauses (λ κs a. relined a.0) refl
 
-  pub interrupts-acknowledge : OneResult 𝓤 interrupts·acknowledge.ended (interrupts·acknowledge.clauses 𝓤)
-  interrupts-acknowledge = one-result 𝓤 interrupts·acknowledge.ended (interrupts·acknowledge.clauses 𝓤) (λ κs a. acknowledge a.0) refl
+  pub interrupts-acknowledge : OneResult 𝓤 interrupts·acknowledge.ended interrupts·acknowledge.clauses
+  interrupts-acknowledge = one-result 𝓤 interrupts·acknowledge.ended interrupts·acknowledge.clauses (λ κs a. acknowledge a.0) refl
 
-  pub interrupts-acknowledged : OneResult 𝓤 interrupts·acknowledged.ended (interrupts·acknowledged.clauses 𝓤)
-  interrupts-acknowledged = one-result 𝓤 interrupts·acknowledged.ended (interrupts·acknowledged.clauses 𝓤) (λ κs a. acknowledged a.0) refl
+  pub interrupts-acknowledged : OneResult 𝓤 interrupts·acknowledged.ended interrupts·acknowledged.clauses
+  interrupts-acknowledged = one-result 𝓤 interrupts·acknowledged.ended interrupts·acknowledged.clauses (λ κs a. acknowledged a.0) refl
 
-  pub interrupts-vector-read : OneResult 𝓤 interrupts·vector-read.ended (interrupts·vector-read.clauses 𝓤)
-  interrupts-vector-read = one-result 𝓤 interrupts·vector-read.ended (interrupts·vector-read.clauses 𝓤) (λ κs a. vector_read a.0 a.1.0) refl
+  pub interrupts-vector-read : OneResult 𝓤 interrupts·vector-read.ended interrupts·vector-read.clauses
+  interrupts-vector-read = one-result 𝓤 interrupts·vector-read.ended interrupts·vector-read.clauses (λ κs a. vector_read a.0 a.1.0) refl
 
-  pub interrupts-current-vector : OneResult 𝓤 interrupts·current-vector.ended (interrupts·current-vector.clauses 𝓤)
-  interrupts-current-vector = one-result 𝓤 interrupts·current-vector.ended (interrupts·current-vector.clauses 𝓤) (λ κs a. current_vector a.0) refl
+  pub interrupts-current-vector : OneResult 𝓤 interrupts·current-vector.ended interrupts·current-vector.clauses
+  interrupts-current-vector = one-result 𝓤 interrupts·current-vector.ended interrupts·current-vector.clauses (λ κs a. current_vector a.0) refl
 
-  pub levels-port-on : OneResult 𝓤 levels·port-on.ended (levels·port-on.clauses 𝓤)
-  levels-port-on = one-result 𝓤 levels·port-on.ended (levels·port-on.clauses 𝓤) (λ κs a. port_on a.0 a.1.0) refl
+  pub levels-port-on : OneResult 𝓤 levels·port-on.ended levels·port-on.clauses
+  levels-port-on = one-result 𝓤 levels·port-on.ended levels·port-on.clauses (λ κs a. port_on a.0 a.1.0) refl
 
-  pub levels-port-enabled : OneResult 𝓤 levels·port-enabled.ended (levels·port-enabled.clauses 𝓤)
-  levels-port-enabled = one-result 𝓤 levels·port-enabled.ended (levels·port-enabled.clauses 𝓤) (λ κs a. port_enabled a.0 a.1.0) refl
+  pub levels-port-enabled : OneResult 𝓤 levels·port-enabled.ended levels·port-enabled.clauses
+  levels-port-enabled = one-result 𝓤 levels·port-enabled.ended levels·port-enabled.clauses (λ κs a. port_enabled a.0 a.1.0) refl
 
-  pub levels-counter-on : OneResult 𝓤 levels·counter-on.ended (levels·counter-on.clauses 𝓤)
-  levels-counter-on = one-result 𝓤 levels·counter-on.ended (levels·counter-on.clauses 𝓤) (λ κs a. counter_on a.0 a.1.0) refl
+  pub levels-counter-on : OneResult 𝓤 levels·counter-on.ended levels·counter-on.clauses
+  levels-counter-on = one-result 𝓤 levels·counter-on.ended levels·counter-on.clauses (λ κs a. counter_on a.0 a.1.0) refl
 
-  pub levels-inputs-at : OneResult 𝓤 levels·inputs-at.ended (levels·inputs-at.clauses 𝓤)
-  levels-inputs-at = one-result 𝓤 levels·inputs-at.ended (levels·inputs-at.clauses 𝓤) (λ κs a. inputs (pattern_at a.0 a.1.0)) refl
+  pub levels-inputs-at : OneResult 𝓤 levels·inputs-at.ended levels·inputs-at.clauses
+  levels-inputs-at = one-result 𝓤 levels·inputs-at.ended levels·inputs-at.clauses (λ κs a. inputs (pattern_at a.0 a.1.0)) refl
 
-  pub levels-outputs-at : OneResult 𝓤 levels·outputs-at.ended (levels·outputs-at.clauses 𝓤)
-  levels-outputs-at = one-result 𝓤 levels·outputs-at.ended (levels·outputs-at.clauses 𝓤) (λ κs a. outputs (pattern_at a.0 a.1.0)) refl
+  pub levels-outputs-at : OneResult 𝓤 levels·outputs-at.ended levels·outputs-at.clauses
+  levels-outputs-at = one-result 𝓤 levels·outputs-at.ended levels·outputs-at.clauses (λ κs a. outputs (pattern_at a.0 a.1.0)) refl
 
-  pub levels-ackin-at : OneResult 𝓤 levels·ackin-at.ended (levels·ackin-at.clauses 𝓤)
-  levels-ackin-at = one-result 𝓤 levels·ackin-at.ended (levels·ackin-at.clauses 𝓤) (λ κs a. ackin_at a.0 a.1.0) refl
+  pub levels-ackin-at : OneResult 𝓤 levels·ackin-at.ended levels·ackin-at.clauses
+  levels-ackin-at = one-result 𝓤 levels·ackin-at.ended levels·ackin-at.clauses (λ κs a. ackin_at a.0 a.1.0) refl
 
-  pub levels-offers-at : OneResult 𝓤 levels·offers-at.ended (levels·offers-at.clauses 𝓤)
-  levels-offers-at = one-result 𝓤 levels·offers-at.ended (levels·offers-at.clauses 𝓤) (λ κs a. offers_at a.0 a.1.0) refl
+  pub levels-offers-at : OneResult 𝓤 levels·offers-at.ended levels·offers-at.clauses
+  levels-offers-at = one-result 𝓤 levels·offers-at.ended levels·offers-at.clauses (λ κs a. offers_at a.0 a.1.0) refl
 
-  pub levels-effective-at : OneResult 𝓤 levels·effective-at.ended (levels·effective-at.clauses 𝓤)
-  levels-effective-at = one-result 𝓤 levels·effective-at.ended (levels·effective-at.clauses 𝓤) (λ κs a. effective_at a.0 a.1.0) refl
+  pub levels-effective-at : OneResult 𝓤 levels·effective-at.ended levels·effective-at.clauses
+  levels-effective-at = one-result 𝓤 levels·effective-at.ended levels·effective-at.clauses (λ κs a. effective_at a.0 a.1.0) refl
 
-  pub levels-direction-at : OneResult 𝓤 levels·direction-at.ended (levels·direction-at.clauses 𝓤)
-  levels-direction-at = one-result 𝓤 levels·direction-at.ended (levels·direction-at.clauses 𝓤) (λ κs a. direction_at a.0 a.1.0) refl
+  pub levels-direction-at : OneResult 𝓤 levels·direction-at.ended levels·direction-at.clauses
+  levels-direction-at = one-result 𝓤 levels·direction-at.ended levels·direction-at.clauses (λ κs a. direction_at a.0 a.1.0) refl
 
-  pub levels-pins-at : OneResult 𝓤 levels·pins-at.ended (levels·pins-at.clauses 𝓤)
-  levels-pins-at = one-result 𝓤 levels·pins-at.ended (levels·pins-at.clauses 𝓤) (λ κs a. pins_at a.0 a.1.0) refl
+  pub levels-pins-at : OneResult 𝓤 levels·pins-at.ended levels·pins-at.clauses
+  levels-pins-at = one-result 𝓤 levels·pins-at.ended levels·pins-at.clauses (λ κs a. pins_at a.0 a.1.0) refl
 
-  pub levels-path-at : OneResult 𝓤 levels·path-at.ended (levels·path-at.clauses 𝓤)
-  levels-path-at = one-result 𝓤 levels·path-at.ended (levels·path-at.clauses 𝓤) (λ κs a. path_at a.0 a.1.0) refl
+  pub levels-path-at : OneResult 𝓤 levels·path-at.ended levels·path-at.clauses
+  levels-path-at = one-result 𝓤 levels·path-at.ended levels·path-at.clauses (λ κs a. path_at a.0 a.1.0) refl
 
-  pub levels-seen-at : OneResult 𝓤 levels·seen-at.ended (levels·seen-at.clauses 𝓤)
-  levels-seen-at = one-result 𝓤 levels·seen-at.ended (levels·seen-at.clauses 𝓤) (λ κs a. seen_at a.0 a.1.0) refl
+  pub levels-seen-at : OneResult 𝓤 levels·seen-at.ended levels·seen-at.clauses
+  levels-seen-at = one-result 𝓤 levels·seen-at.ended levels·seen-at.clauses (λ κs a. seen_at a.0 a.1.0) refl
 
-  pub levels-look : OneResult 𝓤 levels·look.ended (levels·look.clauses 𝓤)
-  levels-look = one-result 𝓤 levels·look.ended (levels·look.clauses 𝓤) (λ κs a. looks_of a.0) refl
+  pub levels-look : OneResult 𝓤 levels·look.ended levels·look.clauses
+  levels-look = one-result 𝓤 levels·look.ended levels·look.clauses (λ κs a. looks_of a.0) refl
 
-  pub levels-data-at : OneResult 𝓤 levels·data-at.ended (levels·data-at.clauses 𝓤)
-  levels-data-at = one-result 𝓤 levels·data-at.ended (levels·data-at.clauses 𝓤) (λ κs a. data_at a.0 a.1.0) refl
+  pub levels-data-at : OneResult 𝓤 levels·data-at.ended levels·data-at.clauses
+  levels-data-at = one-result 𝓤 levels·data-at.ended levels·data-at.clauses (λ κs a. data_at a.0 a.1.0) refl
 
-  pub bench-lines-agreed-to : OneResult 𝓤 bench-lines·agreed-to.ended (bench-lines·agreed-to.clauses 𝓤)
+  pub bench-lines-agreed-to : OneResult 𝓤 bench-lines·agreed-to.ended bench-lines·agreed-to.clauses
   bench-lines-agreed-to =
-      one-result 𝓤 bench-lines·agreed-to.ended (bench-lines·agreed-to.clauses 𝓤) (λ κs a. agreed_to a.0 a.1.0.now a.1.1.0) refl
+      one-result 𝓤 bench-lines·agreed-to.ended bench-lines·agreed-to.clauses (λ κs a. agreed_to a.0 a.1.0.now a.1.1.0) refl
 
-  pub bench-lines-compare : OneResult 𝓤 bench-lines·compare.ended (bench-lines·compare.clauses 𝓤)
+  pub bench-lines-compare : OneResult 𝓤 bench-lines·compare.ended bench-lines·compare.clauses
   bench-lines-compare =
-      one-result 𝓤 bench-lines·compare.ended (bench-lines·compare.clauses 𝓤) (λ κs a. compared_of a.0 a.1.0.now) refl
+      one-result 𝓤 bench-lines·compare.ended bench-lines·compare.clauses (λ κs a. compared_of a.0 a.1.0.now) refl
 
-  pub bench-lines-compare-kept : OneResult 𝓤 bench-lines·compare-kept.ended (bench-lines·compare-kept.clauses 𝓤)
+  pub bench-lines-compare-kept : OneResult 𝓤 bench-lines·compare-kept.ended bench-lines·compare-kept.clauses
   bench-lines-compare-kept =
-      one-result 𝓤 bench-lines·compare-kept.ended (bench-lines·compare-kept.clauses 𝓤) (λ κs a. compared_kept a.0 a.1.0) refl
+      one-result 𝓤 bench-lines·compare-kept.ended bench-lines·compare-kept.clauses (λ κs a. compared_kept a.0 a.1.0) refl
 
-  pub bench-lines-field-name : OneResult 𝓤 bench-lines·field-name.ended (bench-lines·field-name.clauses 𝓤)
+  pub bench-lines-field-name : OneResult 𝓤 bench-lines·field-name.ended bench-lines·field-name.clauses
   bench-lines-field-name =
-      one-result 𝓤 bench-lines·field-name.ended (bench-lines·field-name.clauses 𝓤) (λ κs a. typed no_text (name_of a.0)) refl
+      one-result 𝓤 bench-lines·field-name.ended bench-lines·field-name.clauses (λ κs a. typed no_text (name_of a.0)) refl
 
-  pub lines-cut-from : OneResult 𝓤 lines·cut-from.ended (lines·cut-from.clauses 𝓤)
+  pub lines-cut-from : OneResult 𝓤 lines·cut-from.ended lines·cut-from.clauses
   lines-cut-from =
-      one-result 𝓤 lines·cut-from.ended (lines·cut-from.clauses 𝓤)
+      one-result 𝓤 lines·cut-from.ended lines·cut-from.clauses
       (λ κs a. cut_from a.0 a.1.1.0 (drop a.1.1.0 a.1.0.now)) refl
 
-  pub lines-line-end : OneResult 𝓤 lines·line-end.ended (lines·line-end.clauses 𝓤)
-  lines-line-end = one-result 𝓤 lines·line-end.ended (lines·line-end.clauses 𝓤) (λ κs a. a.1.0 + feed_at (drop a.1.0 a.0.now)) refl
+  pub lines-line-end : OneResult 𝓤 lines·line-end.ended lines·line-end.clauses
+  lines-line-end = one-result 𝓤 lines·line-end.ended lines·line-end.clauses (λ κs a. a.1.0 + feed_at (drop a.1.0 a.0.now)) refl
 
-  pub lines-digit : OneResult 𝓤 lines·digit.ended (lines·digit.clauses 𝓤)
+  pub lines-digit : OneResult 𝓤 lines·digit.ended lines·digit.clauses
   lines-digit =
-      one_answer 𝓤 lines·digit.ended (lines·digit.clauses 𝓤) (λ κs. ℕ) (λ κs r x. r)
+      one_answer 𝓤 lines·digit.ended lines·digit.clauses (λ κs. ℕ) (λ κs r x. r)
       (λ κs a. digit_of a.0) (λ 𝓛 at_mem run κs a g r x. fact_mono 𝓤 _ _ (λ p. p.0))
 
-  pub lines-decimal : OneResult 𝓤 lines·decimal.ended (lines·decimal.clauses 𝓤)
-  lines-decimal = one-result 𝓤 lines·decimal.ended (lines·decimal.clauses 𝓤) (λ κs a. clocks_in a.0.now) refl
+  pub lines-decimal : OneResult 𝓤 lines·decimal.ended lines·decimal.clauses
+  lines-decimal = one-result 𝓤 lines·decimal.ended lines·decimal.clauses (λ κs a. clocks_in a.0.now) refl
 
-  pub lines-event-of : OneResult 𝓤 lines·event-of.ended (lines·event-of.clauses 𝓤)
-  lines-event-of = one-result 𝓤 lines·event-of.ended (lines·event-of.clauses 𝓤) (λ κs a. event_in (line_of a.0.now)) refl
+  pub lines-event-of : OneResult 𝓤 lines·event-of.ended lines·event-of.clauses
+  lines-event-of = one-result 𝓤 lines·event-of.ended lines·event-of.clauses (λ κs a. event_in (line_of a.0.now)) refl
 
-  pub lines-event-of-line : OneResult 𝓤 lines·event-of-line.ended (lines·event-of-line.clauses 𝓤)
-  lines-event-of-line = one-result 𝓤 lines·event-of-line.ended (lines·event-of-line.clauses 𝓤) (λ κs a. event_in (says_of a.0)) refl
+  pub lines-event-of-line : OneResult 𝓤 lines·event-of-line.ended lines·event-of-line.clauses
+  lines-event-of-line = one-result 𝓤 lines·event-of-line.ended lines·event-of-line.clauses (λ κs a. event_in (says_of a.0)) refl
 
-  pub moves-moves : OneResult 𝓤 moves·moves.ended (moves·moves.clauses 𝓤)
-  moves-moves = one-result 𝓤 moves·moves.ended (moves·moves.clauses 𝓤) (λ κs a. moves_of a.0 a.1.0) refl
+  pub moves-moves : OneResult 𝓤 moves·moves.ended moves·moves.clauses
+  moves-moves = one-result 𝓤 moves·moves.ended moves·moves.clauses (λ κs a. moves_of a.0 a.1.0) refl
 
-  pub moves-given : OneResult 𝓤 moves·given.ended (moves·given.clauses 𝓤)
-  moves-given = one-result 𝓤 moves·given.ended (moves·given.clauses 𝓤) (λ κs a. given_at a.0 a.1.0) refl
+  pub moves-given : OneResult 𝓤 moves·given.ended moves·given.clauses
+  moves-given = one-result 𝓤 moves·given.ended moves·given.clauses (λ κs a. given_at a.0 a.1.0) refl
 
-  pub moves-stored : OneResult 𝓤 moves·stored.ended (moves·stored.clauses 𝓤)
-  moves-stored = one-result 𝓤 moves·stored.ended (moves·stored.clauses 𝓤) (λ κs a. cond (ltb a.1.0 2) (stored_at a.0 a.1.0 a.1.1.0) a.0) refl
+  pub moves-stored : OneResult 𝓤 moves·stored.ended moves·stored.clauses
+  moves-stored = one-result 𝓤 moves·stored.ended moves·stored.clauses (λ κs a. cond (ltb a.1.0 2) (stored_at a.0 a.1.0 a.1.1.0) a.0) refl
 
-  pub ports-spread : OneResult 𝓤 ports·spread.ended (ports·spread.clauses 𝓤)
-  ports-spread = one-result 𝓤 ports·spread.ended (ports·spread.clauses 𝓤) (λ κs a. byte_of (λ k. a.0)) refl
+  pub ports-spread : OneResult 𝓤 ports·spread.ended ports·spread.clauses
+  ports-spread = one-result 𝓤 ports·spread.ended ports·spread.clauses (λ κs a. byte_of (λ k. a.0)) refl
 
-  pub ports-places : OneResult 𝓤 ports·places.ended (ports·places.clauses 𝓤)
-  ports-places = one-result 𝓤 ports·places.ended (ports·places.clauses 𝓤) (λ κs a. byte_of (catches_at a.0 a.1.0)) refl
+  pub ports-places : OneResult 𝓤 ports·places.ended ports·places.clauses
+  ports-places = one-result 𝓤 ports·places.ended ports·places.clauses (λ κs a. byte_of (catches_at a.0 a.1.0)) refl
 
-  pub ports-on : OneResult 𝓤 ports·on.ended (ports·on.clauses 𝓤)
-  ports-on = one-result 𝓤 ports·on.ended (ports·on.clauses 𝓤) (λ κs a. byte_of (on_at a.0)) refl
+  pub ports-on : OneResult 𝓤 ports·on.ended ports·on.clauses
+  ports-on = one-result 𝓤 ports·on.ended ports·on.clauses (λ κs a. byte_of (on_at a.0)) refl
 
-  pub ports-hits : OneResult 𝓤 ports·hits.ended (ports·hits.clauses 𝓤)
-  ports-hits = one-result 𝓤 ports·hits.ended (ports·hits.clauses 𝓤) (λ κs a. byte_of (hit_at a.0 a.1.0 a.1.1.0)) refl
+  pub ports-hits : OneResult 𝓤 ports·hits.ended ports·hits.clauses
+  ports-hits = one-result 𝓤 ports·hits.ended ports·hits.clauses (λ κs a. byte_of (hit_at a.0 a.1.0 a.1.1.0)) refl
 
-  pub ports-highest : OneResult 𝓤 ports·highest.ended (ports·highest.clauses 𝓤)
-  ports-highest = one-result 𝓤 ports·highest.ended (ports·highest.clauses 𝓤) (λ κs a. highest_match a.0 a.1.0 a.1.1.0) refl
+  pub ports-highest : OneResult 𝓤 ports·highest.ended ports·highest.clauses
+  ports-highest = one-result 𝓤 ports·highest.ended ports·highest.clauses (λ κs a. highest_match a.0 a.1.0 a.1.1.0) refl
 
-  pub ports-inputs : OneResult 𝓤 ports·inputs.ended (ports·inputs.clauses 𝓤)
-  ports-inputs = one-result 𝓤 ports·inputs.ended (ports·inputs.clauses 𝓤) (λ κs a. inputs a.0) refl
+  pub ports-inputs : OneResult 𝓤 ports·inputs.ended ports·inputs.clauses
+  ports-inputs = one-result 𝓤 ports·inputs.ended ports·inputs.clauses (λ κs a. inputs a.0) refl
 
-  pub ports-outputs : OneResult 𝓤 ports·outputs.ended (ports·outputs.clauses 𝓤)
-  ports-outputs = one-result 𝓤 ports·outputs.ended (ports·outputs.clauses 𝓤) (λ κs a. outputs a.0) refl
+  pub ports-outputs : OneResult 𝓤 ports·outputs.ended ports·outputs.clauses
+  ports-outputs = one-result 𝓤 ports·outputs.ended ports·outputs.clauses (λ κs a. outputs a.0) refl
 
-  pub ports-handshakes : OneResult 𝓤 ports·handshakes.ended (ports·handshakes.clauses 𝓤)
-  ports-handshakes = one-result 𝓤 ports·handshakes.ended (ports·handshakes.clauses 𝓤) (λ κs a. handshakes a.0) refl
+  pub ports-handshakes : OneResult 𝓤 ports·handshakes.ended ports·handshakes.clauses
+  ports-handshakes = one-result 𝓤 ports·handshakes.ended ports·handshakes.clauses (λ κs a. handshakes a.0) refl
 
-  pub ports-depth : OneResult 𝓤 ports·depth.ended (ports·depth.clauses 𝓤)
-  ports-depth = one-result 𝓤 ports·depth.ended (ports·depth.clauses 𝓤) (λ κs a. depth a.0) refl
+  pub ports-depth : OneResult 𝓤 ports·depth.ended ports·depth.clauses
+  ports-depth = one-result 𝓤 ports·depth.ended ports·depth.clauses (λ κs a. depth a.0) refl
 
-  pub ports-irf : OneResult 𝓤 ports·irf.ended (ports·irf.clauses 𝓤)
-  ports-irf = one-result 𝓤 ports·irf.ended (ports·irf.clauses 𝓤) (λ κs a. irf_of a.0 a.1.0) refl
+  pub ports-irf : OneResult 𝓤 ports·irf.ended ports·irf.clauses
+  ports-irf = one-result 𝓤 ports·irf.ended ports·irf.clauses (λ κs a. irf_of a.0 a.1.0) refl
 
-  pub ports-ore : OneResult 𝓤 ports·ore.ended (ports·ore.clauses 𝓤)
-  ports-ore = one-result 𝓤 ports·ore.ended (ports·ore.clauses 𝓤) (λ κs a. ore_of a.0 a.1.0) refl
+  pub ports-ore : OneResult 𝓤 ports·ore.ended ports·ore.clauses
+  ports-ore = one-result 𝓤 ports·ore.ended ports·ore.clauses (λ κs a. ore_of a.0 a.1.0) refl
 
-  pub ports-ready : OneResult 𝓤 ports·ready.ended (ports·ready.clauses 𝓤)
-  ports-ready = one-result 𝓤 ports·ready.ended (ports·ready.clauses 𝓤) (λ κs a. ready_of a.0 a.1.0 a.1.1.0) refl
+  pub ports-ready : OneResult 𝓤 ports·ready.ended ports·ready.clauses
+  ports-ready = one-result 𝓤 ports·ready.ended ports·ready.clauses (λ κs a. ready_of a.0 a.1.0 a.1.1.0) refl
 
-  pub ports-available : OneResult 𝓤 ports·available.ended (ports·available.clauses 𝓤)
-  ports-available = one-result 𝓤 ports·available.ended (ports·available.clauses 𝓤) (λ κs a. available_of a.0 a.1.0 a.1.1.0 a.1.1.1.0) refl
+  pub ports-available : OneResult 𝓤 ports·available.ended ports·available.clauses
+  ports-available = one-result 𝓤 ports·available.ended ports·available.clauses (λ κs a. available_of a.0 a.1.0 a.1.1.0 a.1.1.1.0) refl
 
-  pub read-access-read : OneResult 𝓤 read-access·read.ended (read-access·read.clauses 𝓤)
-  read-access-read = one-result 𝓤 read-access·read.ended (read-access·read.clauses 𝓤) (λ κs a. read_of a.0 (kind_of a.1.0)) refl
+  pub read-access-read : OneResult 𝓤 read-access·read.ended read-access·read.clauses
+  read-access-read = one-result 𝓤 read-access·read.ended read-access·read.clauses (λ κs a. read_of a.0 (kind_of a.1.0)) refl
 
-  pub read-access-after-read : OneResult 𝓤 read-access·after-read.ended (read-access·after-read.clauses 𝓤)
-  read-access-after-read = one-result 𝓤 read-access·after-read.ended (read-access·after-read.clauses 𝓤) (λ κs a. after_read a.0 a.1.0) refl
+  pub read-access-after-read : OneResult 𝓤 read-access·after-read.ended read-access·after-read.clauses
+  read-access-after-read = one-result 𝓤 read-access·after-read.ended read-access·after-read.clauses (λ κs a. after_read a.0 a.1.0) refl
 
-  pub sources-command : OneResult 𝓤 sources·command.ended (sources·command.clauses 𝓤)
-  sources-command = one-result 𝓤 sources·command.ended (sources·command.clauses 𝓤) (λ κs a. commanded a.0 a.1.0) refl
+  pub sources-command : OneResult 𝓤 sources·command.ended sources·command.clauses
+  sources-command = one-result 𝓤 sources·command.ended sources·command.clauses (λ κs a. commanded a.0 a.1.0) refl
 
-  pub sources-port-command : OneResult 𝓤 sources·port-command.ended (sources·port-command.clauses 𝓤)
-  sources-port-command = one-result 𝓤 sources·port-command.ended (sources·port-command.clauses 𝓤) (λ κs a. port_command_of a.0 a.1.0 a.1.1.0 a.1.1.1.0) refl
+  pub sources-port-command : OneResult 𝓤 sources·port-command.ended sources·port-command.clauses
+  sources-port-command = one-result 𝓤 sources·port-command.ended sources·port-command.clauses (λ κs a. port_command_of a.0 a.1.0 a.1.1.0 a.1.1.1.0) refl
 
-  pub sources-counter-command : OneResult 𝓤 sources·counter-command.ended (sources·counter-command.clauses 𝓤)
+  pub sources-counter-command : OneResult 𝓤 sources·counter-command.ended sources·counter-command.clauses
   sources-counter-command =
-      one-result 𝓤 sources·counter-command.ended (sources·counter-command.clauses 𝓤)
+      one-result 𝓤 sources·counter-command.ended sources·counter-command.clauses
       (λ κs a. counter_command_of a.0 a.1.0) refl
 
-  pub sources-fate : OneResult 𝓤 sources·fate.ended (sources·fate.clauses 𝓤)
-  sources-fate = one-result 𝓤 sources·fate.ended (sources·fate.clauses 𝓤) (λ κs a. fate_of a.0 a.1.0 a.1.1.0) refl
+  pub sources-fate : OneResult 𝓤 sources·fate.ended sources·fate.clauses
+  sources-fate = one-result 𝓤 sources·fate.ended sources·fate.clauses (λ κs a. fate_of a.0 a.1.0 a.1.1.0) refl
 
-  pub step-step : OneResult 𝓤 step·step.ended (step·step.clauses 𝓤)
-  step-step = one-result 𝓤 step·step.ended (step·step.clauses 𝓤) (λ κs a. step_of a.0 a.1.0 a.1.1.0) refl
+  pub step-step : OneResult 𝓤 step·step.ended step·step.clauses
+  step-step = one-result 𝓤 step·step.ended step·step.clauses (λ κs a. step_of a.0 a.1.0 a.1.1.0) refl
 
-  pub step-lines-at : OneResult 𝓤 step·lines-at.ended (step·lines-at.clauses 𝓤)
-  step-lines-at = one-result 𝓤 step·lines-at.ended (step·lines-at.clauses 𝓤) (λ κs a. lines_at a.0 a.1.0) refl
+  pub step-lines-at : OneResult 𝓤 step·lines-at.ended step·lines-at.clauses
+  step-lines-at = one-result 𝓤 step·lines-at.ended step·lines-at.clauses (λ κs a. lines_at a.0 a.1.0) refl
 
-  pub step-link : OneResult 𝓤 step·link.ended (step·link.clauses 𝓤)
-  step-link = one-result 𝓤 step·link.ended (step·link.clauses 𝓤) (λ κs a. link_of a.0 a.1.0 a.1.1.0) refl
+  pub step-link : OneResult 𝓤 step·link.ended step·link.clauses
+  step-link = one-result 𝓤 step·link.ended step·link.clauses (λ κs a. link_of a.0 a.1.0 a.1.1.0) refl
 
-  pub step-catch-all : OneResult 𝓤 step·catch-all.ended (step·catch-all.clauses 𝓤)
-  step-catch-all = one-result 𝓤 step·catch-all.ended (step·catch-all.clauses 𝓤) (λ κs a. catchers a.0) refl
+  pub step-catch-all : OneResult 𝓤 step·catch-all.ended step·catch-all.clauses
+  step-catch-all = one-result 𝓤 step·catch-all.ended step·catch-all.clauses (λ κs a. catchers a.0) refl
 
-  pub step-matches : OneResult 𝓤 step·matches.ended (step·matches.clauses 𝓤)
-  step-matches = one-result 𝓤 step·matches.ended (step·matches.clauses 𝓤) (λ κs a. match_of a.0 a.1.0 a.1.1.0 a.1.1.1.0) refl
+  pub step-matches : OneResult 𝓤 step·matches.ended step·matches.clauses
+  step-matches = one-result 𝓤 step·matches.ended step·matches.clauses (λ κs a. match_of a.0 a.1.0 a.1.1.0 a.1.1.1.0) refl
 
-  pub step-has-caught : OneResult 𝓤 step·has-caught.ended (step·has-caught.clauses 𝓤)
-  step-has-caught = one-result 𝓤 step·has-caught.ended (step·has-caught.clauses 𝓤) (λ κs a. has_caught a.0) refl
+  pub step-has-caught : OneResult 𝓤 step·has-caught.ended step·has-caught.clauses
+  step-has-caught = one-result 𝓤 step·has-caught.ended step·has-caught.clauses (λ κs a. has_caught a.0) refl
 
-  pub step-untimed : OneResult 𝓤 step·untimed.ended (step·untimed.clauses 𝓤)
-  step-untimed = one-result 𝓤 step·untimed.ended (step·untimed.clauses 𝓤) (λ κs a. (step_of false a.0 a.1.0).device) refl
+  pub step-untimed : OneResult 𝓤 step·untimed.ended step·untimed.clauses
+  step-untimed = one-result 𝓤 step·untimed.ended step·untimed.clauses (λ κs a. (step_of false a.0 a.1.0).device) refl
 
-  pub texts-glyph : OneResult 𝓤 texts·glyph.ended (texts·glyph.clauses 𝓤)
-  texts-glyph = one-result 𝓤 texts·glyph.ended (texts·glyph.clauses 𝓤) (λ κs a. glyph_of a.0) refl
+  pub texts-glyph : OneResult 𝓤 texts·glyph.ended texts·glyph.clauses
+  texts-glyph = one-result 𝓤 texts·glyph.ended texts·glyph.clauses (λ κs a. glyph_of a.0) refl
 
-  pub texts-decimal : OneResult 𝓤 texts·decimal.ended (texts·decimal.clauses 𝓤)
-  texts-decimal = one-result 𝓤 texts·decimal.ended (texts·decimal.clauses 𝓤) (λ κs a. typed a.0 (decimal_text a.1.0)) refl
+  pub texts-decimal : OneResult 𝓤 texts·decimal.ended texts·decimal.clauses
+  texts-decimal = one-result 𝓤 texts·decimal.ended texts·decimal.clauses (λ κs a. typed a.0 (decimal_text a.1.0)) refl
 
-  pub texts-answer-text : OneResult 𝓤 texts·answer-text.ended (texts·answer-text.clauses 𝓤)
-  texts-answer-text = one-result 𝓤 texts·answer-text.ended (texts·answer-text.clauses 𝓤) (λ κs a. typed no_text (answer_text a.0)) refl
+  pub texts-answer-text : OneResult 𝓤 texts·answer-text.ended texts·answer-text.clauses
+  texts-answer-text = one-result 𝓤 texts·answer-text.ended texts·answer-text.clauses (λ κs a. typed no_text (answer_text a.0)) refl
 
-  pub texts-write-answer : OneAnswer 𝓤 texts·write-answer.ended (texts·write-answer.clauses 𝓤) (λ κs. ℕ × List ℕ) (λ κs r x. (r, x.1.0.now))
+  pub texts-write-answer : OneAnswer 𝓤 texts·write-answer.ended texts·write-answer.clauses (λ κs. ℕ × List ℕ) (λ κs r x. (r, x.1.0.now))
   texts-write-answer =
-      one_answer 𝓤 texts·write-answer.ended (texts·write-answer.clauses 𝓤) (λ κs. ℕ × List ℕ) (λ κs r x. (r, x.1.0.now))
+      one_answer 𝓤 texts·write-answer.ended texts·write-answer.clauses (λ κs. ℕ × List ℕ) (λ κs r x. (r, x.1.0.now))
       (λ κs a. (cond (fits a.1.0.now a.1.1.0 (answer_text a.0)) (a.1.1.0 + length (answer_text a.0)) a.1.1.0, laid_of a.1.0.now a.1.1.0 (answer_text a.0)))
       (λ 𝓛 at_mem run κs a g r x. fact_mono 𝓤 _ _ (λ p i. (p.1 i, p.0 i)))
 
-  pub texts-no-text : OneResult 𝓤 texts·no-text.ended (texts·no-text.clauses 𝓤)
-  texts-no-text = one-result 𝓤 texts·no-text.ended (texts·no-text.clauses 𝓤) (λ κs a. no_text) refl
+  pub texts-no-text : OneResult 𝓤 texts·no-text.ended texts·no-text.clauses
+  texts-no-text = one-result 𝓤 texts·no-text.ended texts·no-text.clauses (λ κs a. no_text) refl
 
-  pub texts-push : OneResult 𝓤 texts·push.ended (texts·push.clauses 𝓤)
-  texts-push = one-result 𝓤 texts·push.ended (texts·push.clauses 𝓤) (λ κs a. pushed a.0 a.1.0) refl
+  pub texts-push : OneResult 𝓤 texts·push.ended texts·push.clauses
+  texts-push = one-result 𝓤 texts·push.ended texts·push.clauses (λ κs a. pushed a.0 a.1.0) refl
 
-  pub write-access-write : OneResult 𝓤 write-access·write.ended (write-access·write.clauses 𝓤)
+  pub write-access-write : OneResult 𝓤 write-access·write.ended write-access·write.clauses
   write-access-write =
-      one-result 𝓤 write-access·write.ended (write-access·write.clauses 𝓤)
+      one-result 𝓤 write-access·write.ended write-access·write.clauses
       (λ κs a. written_of a.0 (kind_of a.1.0) a.1.1.0) refl
