@@ -17,6 +17,7 @@ pub(crate) fn bit(x: u8, k: u8) -> bool
 }
 
 // The label at a row's place in a table, on a new line; beyond the table none.
+#[tactic(auto, unfolding(texts::specs::Kept::typed))]
 pub(crate) fn label(rows: &[[u8; 16]], row: usize) -> Text
     ensures { result ≡ typed no_text (get_or rows.now row []) }
 {
@@ -48,18 +49,21 @@ pub(crate) fn either(t: Text, f: bool, yes: &[u8; 12], no: &[u8; 12]) -> Text
     word(t, no)
 }
 
+#[tactic(auto, unfolding(crate::specs::Cells::bit_cell, texts::specs::Spelled::spelled))]
 pub(crate) fn bit_cell(t: Text, f: bool) -> Text
     ensures { result ≡ typed t (bit_cell f) }
 {
     either(t, f, b"           1", b"           0")
 }
 
+#[tactic(auto, unfolding(crate::specs::Cells::yes_cell, texts::specs::Spelled::spelled))]
 pub(crate) fn yes_cell(t: Text, f: bool) -> Text
     ensures { result ≡ typed t (yes_cell f) }
 {
     either(t, f, b"         yes", b"          no")
 }
 
+#[tactic(auto, unfolding(texts::specs::Kept::typed, crate::specs::Cells::byte_cell, texts::specs::Spelled::spelled))]
 pub(crate) fn byte_cell(t: Text, n: u8) -> Text
     ensures { result ≡ typed t (byte_cell n) }
 {
@@ -68,6 +72,7 @@ pub(crate) fn byte_cell(t: Text, n: u8) -> Text
 }
 
 // The digit at the place of a power of ten, or a space.
+#[tactic(auto, unfolding(crate::specs::Cells::digit_or_space))]
 fn digit(p: u32, n: u32) -> u8
     requires { 0 < p }
     ensures { result ≡ digit_or_space p n }
@@ -78,6 +83,7 @@ fn digit(p: u32, n: u32) -> u8
     b'0' + (n / p % 10) as u8
 }
 
+#[tactic(auto, unfolding(texts::specs::Kept::typed, crate::specs::Cells::number_cell, texts::specs::Spelled::spelled))]
 pub(crate) fn number_cell(t: Text, n: u32) -> Text
     ensures { result ≡ typed t (number_cell n) }
 {

@@ -43,6 +43,7 @@ const LABELS: [[u8; 16]; ROWS] = [
     *b"output          ",
 ];
 
+#[tactic(auto, unfolding(crate::specs::Shown::mode_cell, texts::specs::Spelled::spelled))]
 fn mode_cell(t: Text, mode: u8) -> Text
     ensures { result ≡ typed t (mode_cell mode) }
 {
@@ -54,6 +55,7 @@ fn mode_cell(t: Text, mode: u8) -> Text
 }
 
 // The count; of a running counter 0 is 65,536.
+#[tactic(auto, unfolding(crate::specs::Shown::count_shown))]
 fn count_shown(c: Counter) -> u32
     ensures { result ≡ count_shown c }
 {
@@ -63,6 +65,7 @@ fn count_shown(c: Counter) -> u32
     c.count as u32
 }
 
+#[tactic(auto, unfolding(crate::specs::Shown::frozen_cell, texts::specs::Spelled::spelled))]
 fn frozen_cell(t: Text, rcc: bool, n: u16) -> Text
     ensures { result ≡ typed t (frozen_cell rcc n) }
 {
@@ -72,6 +75,7 @@ fn frozen_cell(t: Text, rcc: bool, n: u16) -> Text
     word(t, b"           -")
 }
 
+#[tactic(auto, unfolding(crate::specs::Shown::counter_cell, crate::specs::Shown::again_cell, texts::specs::Spelled::spelled, crate::specs::Shown::counts_cell, crate::specs::Shown::half_cell))]
 fn counter_cell(t: Text, version: u8, enabled: bool, c: Counter, row: usize) -> Text
     ensures { result ≡ typed t (counter_cell version enabled c row) }
 {
@@ -101,6 +105,7 @@ fn counter_cell(t: Text, version: u8, enabled: bool, c: Counter, row: usize) -> 
 }
 
 // Counter i's column.
+#[tactic(auto, unfolding(crate::specs::Shown::counter_column))]
 fn counter_column(t: Text, d: Device, i: usize, row: usize) -> Text
     requires { i < 3 }
     ensures { result ≡ typed t (counter_column d i row) }
@@ -109,6 +114,7 @@ fn counter_column(t: Text, d: Device, i: usize, row: usize) -> Text
     counter_cell(t, d.version, levels::counter_on(d.config, i), c, row)
 }
 
+#[tactic(auto, unfolding(texts::specs::Kept::typed, crate::specs::Shown::counter_line, texts::specs::Spelled::spelled))]
 pub(crate) fn counter_line(d: Device, row: usize) -> Text
     ensures { result ≡ typed no_text (counter_line d row) }
 {

@@ -25,6 +25,7 @@ const RJA: u8 = 1;
 
 const RESET: u8 = 0;
 
+#[tactic(auto, unfolding(crate::specs::Shown::version_line, texts::specs::Spelled::spelled))]
 pub(crate) fn version_line(version: u8) -> Text
     ensures { result ≡ typed no_text (version_line version) }
 {
@@ -36,6 +37,7 @@ pub(crate) fn version_line(version: u8) -> Text
 }
 
 // What a Z8536 has beside its core: the pointer, and 1 where it was set just now.
+#[tactic(auto, unfolding(texts::specs::Kept::typed, crate::specs::Shown::pointer_line, texts::specs::Spelled::spelled))]
 pub fn pointer_line(pointer: u8, pointed: bool) -> Text
     ensures { result ≡ typed no_text (pointer_line pointer pointed) }
 {
@@ -43,6 +45,7 @@ pub fn pointer_line(pointer: u8, pointed: bool) -> Text
     push(named(t, b"  state ", pointed), b'\n')
 }
 
+#[tactic(auto, unfolding(crate::specs::Shown::master_line, texts::specs::Spelled::spelled))]
 pub(crate) fn master_line(m: u8) -> Text
     ensures { result ≡ typed no_text (master_line m) }
 {
@@ -57,6 +60,7 @@ pub(crate) fn master_line(m: u8) -> Text
 }
 
 // What LC makes of CT1's output.
+#[tactic(auto, unfolding(crate::specs::Shown::link_line, texts::specs::Spelled::spelled))]
 pub(crate) fn link_line(lc: u8) -> Text
     ensures { result ≡ typed no_text (link_line lc) }
 {
@@ -69,6 +73,7 @@ pub(crate) fn link_line(lc: u8) -> Text
     }
 }
 
+#[tactic(auto, unfolding(texts::specs::Kept::typed, crate::specs::Shown::levels_line, texts::specs::Spelled::spelled))]
 pub(crate) fn levels_line(d: Device) -> Text
     ensures { result ≡ typed no_text (levels_line d) }
 {
@@ -79,6 +84,7 @@ pub(crate) fn levels_line(d: Device) -> Text
 }
 
 // Who requests: the place as it is stored.
+#[tactic(auto, unfolding(crate::specs::Shown::request_line, texts::specs::Spelled::spelled))]
 pub(crate) fn request_line(k: u8) -> Text
     ensures { result ≡ typed no_text (request_line k) }
 {
@@ -93,6 +99,7 @@ pub(crate) fn request_line(k: u8) -> Text
     }
 }
 
+#[tactic(auto, unfolding(texts::specs::Kept::typed, crate::specs::Shown::acknowledge_line, texts::specs::Spelled::spelled))]
 pub(crate) fn acknowledge_line(d: Device) -> Text
     ensures { result ≡ typed no_text (acknowledge_line d) }
 {

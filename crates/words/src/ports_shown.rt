@@ -30,6 +30,7 @@ const PORT_LABELS: [[u8; 16]; PORT_ROWS] = [
     *b"catchers        ",
 ];
 
+#[tactic(auto, unfolding(crate::specs::Shown::port_cell))]
 fn port_cell(t: Text, d: Device, p: usize, row: usize) -> Text
     requires { p < 3 }
     ensures { result ≡ typed t (port_cell d p row) }
@@ -46,6 +47,7 @@ fn port_cell(t: Text, d: Device, p: usize, row: usize) -> Text
     }
 }
 
+#[tactic(auto, unfolding(texts::specs::Kept::typed, crate::specs::Shown::port_line, texts::specs::Spelled::spelled))]
 pub(crate) fn port_line(d: Device, row: usize) -> Text
     ensures { result ≡ typed no_text (port_line d row) }
 {
@@ -64,6 +66,7 @@ const PATTERN_LABELS: [[u8; 16]; PATTERN_ROWS] = [
 ];
 
 // The highest matching bit, if one matches.
+#[tactic(auto, unfolding(texts::specs::Spelled::spelled))]
 fn priority_cell(t: Text, matches: bool, n: u8) -> Text
     requires { n < 8 }
     ensures { result ≡ typed t (priority_cell matches n) }
@@ -72,6 +75,7 @@ fn priority_cell(t: Text, matches: bool, n: u8) -> Text
     push(word(t, b"  priority "), digit)
 }
 
+#[tactic(auto, unfolding(rules::specs::Patterns::highest_match, rules::specs::Interrupts::highest_at))]
 fn priority_mode(t: Text, d: Device, p: usize, q: Pattern) -> Text
     requires { q ≡ pattern_at d p }
     ensures { result ≡ typed t (priority_cell (match_of (port_enabled d p) (pattern_at d p) (seen_at d p) (seen_at d p)) (highest_at d p)) }
@@ -82,6 +86,7 @@ fn priority_mode(t: Text, d: Device, p: usize, q: Pattern) -> Text
     priority_cell(t, m, ports::highest(enabled, q, seen))
 }
 
+#[tactic(auto, unfolding(crate::specs::Shown::pattern_mode, texts::specs::Spelled::spelled))]
 fn pattern_mode(t: Text, d: Device, p: usize, q: Pattern) -> Text
     requires { q ≡ pattern_at d p }
     ensures { result ≡ typed t (pattern_mode d p) }
@@ -94,6 +99,7 @@ fn pattern_mode(t: Text, d: Device, p: usize, q: Pattern) -> Text
     }
 }
 
+#[tactic(auto, unfolding(crate::specs::Shown::pattern_cell))]
 fn pattern_cell(t: Text, d: Device, p: usize, q: Pattern, row: usize) -> Text
     requires { q ≡ pattern_at d p }
     ensures { result ≡ typed t (pattern_cell d p row) }
@@ -107,6 +113,7 @@ fn pattern_cell(t: Text, d: Device, p: usize, q: Pattern, row: usize) -> Text
     }
 }
 
+#[tactic(auto, unfolding(texts::specs::Kept::typed, crate::specs::Shown::pattern_line, texts::specs::Spelled::spelled))]
 pub(crate) fn pattern_line(d: Device, row: usize) -> Text
     ensures { result ≡ typed no_text (pattern_line d row) }
 {
@@ -125,6 +132,7 @@ const TRANSFER_LABELS: [[u8; 16]; TRANSFER_ROWS] = [
     *b"  pair half done",
 ];
 
+#[tactic(auto, unfolding(crate::specs::Shown::transfer_cell))]
 fn transfer_cell(t: Text, h: Transfer, row: usize) -> Text
     ensures { result ≡ typed t (transfer_cell h row) }
 {
@@ -137,6 +145,7 @@ fn transfer_cell(t: Text, h: Transfer, row: usize) -> Text
     }
 }
 
+#[tactic(auto, unfolding(texts::specs::Kept::typed, crate::specs::Shown::transfer_line, texts::specs::Spelled::spelled))]
 pub(crate) fn transfer_line(d: Device, row: usize) -> Text
     ensures { result ≡ typed no_text (transfer_line d row) }
 {

@@ -35,6 +35,7 @@ const TAIL: usize = SOURCES + SOURCE_ROWS;
 pub const LINES: usize = TAIL + 3;
 
 // The lines above the ports' columns.
+#[tactic(auto, unfolding(crate::specs::Shown::head_line, texts::specs::Spelled::spelled))]
 fn head_line(d: Device, n: usize) -> Text
     ensures { result ≡ typed no_text (head_line d n) }
 {
@@ -50,6 +51,7 @@ fn head_line(d: Device, n: usize) -> Text
 }
 
 // The lines below the sources' columns.
+#[tactic(auto, unfolding(crate::specs::Shown::tail_line))]
 fn tail_line(d: Device, n: usize) -> Text
     ensures { result ≡ typed no_text (tail_line d n) }
 {
@@ -61,6 +63,7 @@ fn tail_line(d: Device, n: usize) -> Text
 }
 
 // Line n of a device, with its line feed.
+#[tactic(auto, unfolding(crate::specs::Shown::shown_line, texts::specs::Spelled::spelled))]
 pub fn line(d: Device, n: usize) -> Text
     ensures { result ≡ typed no_text (shown_line d n) }
 {

@@ -19,6 +19,7 @@ const LABELS: [[u8; 16]; ROWS] = [
     *b"hidden error    ",
 ];
 
+#[tactic(auto, unfolding(crate::specs::Shown::source_cell))]
 fn source_cell(t: Text, s: Source, row: usize) -> Text
     ensures { result ≡ typed t (source_cell s row) }
 {
@@ -29,6 +30,7 @@ fn source_cell(t: Text, s: Source, row: usize) -> Text
     bit_cell(t, false)
 }
 
+#[tactic(auto, unfolding(texts::specs::Kept::typed, crate::specs::Shown::source_line, texts::specs::Spelled::spelled))]
 pub(crate) fn source_line(d: Device, row: usize) -> Text
     ensures { result ≡ typed no_text (source_line d row) }
 {
