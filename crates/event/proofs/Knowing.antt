@@ -1,13 +1,12 @@
 -- The event of a record that is known to be sound is the event.
 -- Assumes nothing.
 use Prim.Native.Nat.{ℕ}
-use mathlib.Core.Path.{◌≡◌, refl, sym, ap, ◌∙◌}
-use mathlib.Core.Bool.{Bool, true, false, not, cond}
+use mathlib.Core.Path.{◌≡◌, sym, ap, ◌∙◌}
+use mathlib.Core.Bool.{Bool, true, not, cond}
 use lib.Dec.{eqb}
 use Rattle.rules.specs.declared.Device.{Device}
 use Rattle.rules.specs.declared.Event.{Event}
 use Rattle.rules.specs.declared.Effect.{Effect}
-use Rattle.rules.specs.declared.Outcome.{Outcome}
 use Rattle.rules.specs.Sound.{sound_of}
 use Rattle.rules.specs.Events.{code_of, effect, effect_of, relit, outcome_of, unsound_answer, event_of}
 use Rattle.refusals.specs.Known.{known_code}

@@ -1,7 +1,7 @@
 -- X leaves what a write of RESET leaves: in a record that is reset nothing moves, so its step leaves it as it is.
 -- Assumes nothing.
 use Prim.Native.Nat.{ℕ}
-use mathlib.Core.Path.{◌≡◌, refl, ap, ◌∙◌}
+use mathlib.Core.Path.{◌≡◌, refl, ap}
 use mathlib.Core.Bool.{Bool, false, and-false}
 use Rattle.basics.specs.Byte.{byte_of}
 use Rattle.rules.specs.declared.Device.{Device}

@@ -1,6 +1,5 @@
 -- An event of a record that is known to be sound: what every event of such a record is, without asking again.
 -- Assumes nothing.
-use Rattle.std.specs.Prelude.{ℕ, Bool, eqb}
 use Rattle.basics.specs.Signs.{if◌then◌else◌, ◌==◌}
 use Rattle.rules.specs.declared.Device.{Device}
 use Rattle.rules.specs.declared.Event.{Event}

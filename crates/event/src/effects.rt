@@ -35,6 +35,7 @@ fn is_held(d: Device, a: u32) -> bool
     d.reset() & !(a == 0x00)
 }
 
+#[tactic(auto, unfolding(rules::specs::Events::write_effect))]
 pub(crate) fn write_effect(d: Device, a: u32, b: u8) -> Effect
     ensures { result ≡ write_effect d a b }
 {
@@ -47,6 +48,7 @@ pub(crate) fn write_effect(d: Device, a: u32, b: u8) -> Effect
     )
 }
 
+#[tactic(auto, unfolding(rules::specs::Events::read_effect))]
 fn read_effect(d: Device, a: u32) -> Effect
     ensures { result ≡ read_effect d a }
 {
@@ -57,6 +59,7 @@ fn read_effect(d: Device, a: u32) -> Effect
 }
 
 // Other outside levels.
+#[tactic(auto, unfolding(rules::specs::Events::outside_set))]
 fn with_outside(d: Device, a: u8, b: u8, c: u8) -> Device
     ensures { result ≡ outside_set d a b c }
 {
@@ -71,6 +74,7 @@ fn with_outside(d: Device, a: u8, b: u8, c: u8) -> Device
     e
 }
 
+#[tactic(auto, unfolding(rules::specs::Events::pins_effect))]
 fn pins_effect(d: Device, a: u8, b: u8, c: u8) -> Effect
     ensures { result ≡ pins_effect d a b c }
 {
@@ -80,6 +84,7 @@ fn pins_effect(d: Device, a: u8, b: u8, c: u8) -> Effect
     )
 }
 
+#[tactic(auto, unfolding(rules::specs::Events::clocks_effect))]
 fn clocks_effect(d: Device, n: u32) -> Effect
     ensures { result ≡ clocks_effect d n }
 {
@@ -93,12 +98,14 @@ fn clocks_effect(d: Device, n: u32) -> Effect
     }
 }
 
+#[tactic(auto, unfolding(rules::specs::Events::acknowledge_effect))]
 fn acknowledge_effect(d: Device) -> Effect
     ensures { result ≡ acknowledge_effect d }
 {
     effect(interrupts::acknowledged(d), interrupts::acknowledge(d))
 }
 
+#[tactic(auto, unfolding(rules::specs::Events::iei_effect))]
 fn iei_effect(d: Device, v: u32) -> Effect
     ensures { result ≡ iei_effect d v }
 {
@@ -108,6 +115,7 @@ fn iei_effect(d: Device, v: u32) -> Effect
 }
 
 // What an accepted event does, none of whose numbers is too large.
+#[tactic(auto, unfolding(rules::specs::Events::effect_of))]
 pub(crate) fn effect_of(d: Device, e: Event) -> Effect
     requires { too_large e ≡ false }
     ensures { result ≡ effect_of d e }

@@ -30,6 +30,7 @@ fn unsound(d: Device) -> Outcome
 }
 
 // An answer with the lines after the event, which are worked out once.
+#[tactic(auto, unfolding(rules::specs::Events::outcome_of, rules::specs::Events::answer_of, rules::specs::Events::relit))]
 fn outcome(code: u8, f: Effect) -> Outcome
     ensures { result ≡ outcome_of code (relit f) }
 {
@@ -51,6 +52,7 @@ fn outcome(code: u8, f: Effect) -> Outcome
 }
 
 // Any record and any event, to an answer beside the record.
+#[tactic(auto, unfolding(rules::specs::Events::event_of))]
 pub fn event(d: Device, e: Event) -> Outcome
     ensures { result ≡ event_of d e }
 {
@@ -65,6 +67,7 @@ pub fn event(d: Device, e: Event) -> Outcome
 }
 
 // The same of a record that is known to be sound, as every record is that an event of a sound one left: nothing asks again whether it is.
+#[tactic(auto, unfolding(crate::specs::Known::known_of, rules::specs::Events::effect_of))]
 pub fn known(d: Device, e: Event) -> Outcome
     ensures { result ≡ known_of d e }
 {
