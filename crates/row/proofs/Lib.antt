@@ -1,5 +1,3 @@
-pub mod Scaled
-pub mod Again
 pub mod Along
 pub mod Looks
 pub mod Acts
