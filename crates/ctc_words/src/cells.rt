@@ -24,6 +24,7 @@ pub(crate) const LABELS: [[u8; 16]; 12] = [
 ];
 
 // The label at a row's place in a table, on a new line; beyond the table none.
+#[tactic(auto, unfolding(texts::specs::Kept::typed))]
 pub(crate) fn label(rows: &[[u8; 16]], row: usize) -> Text
     ensures { result ≡ typed no_text (get_or rows.now row []) }
 {
@@ -44,6 +45,7 @@ fn either(t: Text, f: bool, yes: &[u8; 12], no: &[u8; 12]) -> Text
     word(t, no)
 }
 
+#[tactic(auto, unfolding(words::specs::Cells::bit_cell, texts::specs::Spelled::spelled))]
 fn bit(t: Text, f: bool) -> Text
     ensures { result ≡ typed t (bit_cell f) }
 {
@@ -51,6 +53,7 @@ fn bit(t: Text, f: bool) -> Text
 }
 
 // The digit at the place of a power of ten, or a space.
+#[tactic(auto, unfolding(words::specs::Cells::digit_or_space))]
 fn digit(p: u32, n: u32) -> u8
     requires { 0 < p }
     ensures { result ≡ digit_or_space p n }
@@ -61,6 +64,7 @@ fn digit(p: u32, n: u32) -> u8
     b'0' + (n / p % 10) as u8
 }
 
+#[tactic(auto, unfolding(texts::specs::Kept::typed, words::specs::Cells::number_cell, texts::specs::Spelled::spelled))]
 fn number(t: Text, n: u32) -> Text
     ensures { result ≡ typed t (number_cell n) }
 {
@@ -72,6 +76,7 @@ fn number(t: Text, n: u32) -> Text
 }
 
 // 0 is 256 in a channel that has a constant.
+#[tactic(auto, unfolding(crate::specs::Shown::full_if))]
 fn full(loaded: bool, n: u8) -> u32
     ensures { result ≡ full_if loaded n }
 {
@@ -81,6 +86,7 @@ fn full(loaded: bool, n: u8) -> u32
     n as u32
 }
 
+#[tactic(auto, unfolding(crate::specs::Shown::constant_cell, texts::specs::Spelled::spelled))]
 fn constant(t: Text, loaded: bool, n: u8) -> Text
     ensures { result ≡ typed t (constant_cell loaded n) }
 {
@@ -91,6 +97,7 @@ fn constant(t: Text, loaded: bool, n: u8) -> Text
 }
 
 // What a channel waits for.
+#[tactic(auto, unfolding(crate::specs::Shown::waits_cell, texts::specs::Spelled::spelled))]
 fn waits(t: Text, c: Channel) -> Text
     ensures { result ≡ typed t (waits_cell c) }
 {
@@ -104,6 +111,7 @@ fn waits(t: Text, c: Channel) -> Text
 }
 
 // A fact of a channel.
+#[tactic(auto, unfolding(crate::specs::Shown::channel_cell, crate::specs::Shown::kind_cell, texts::specs::Spelled::spelled, crate::specs::Shown::factor_cell, crate::specs::Shown::edge_cell, crate::specs::Shown::start_cell, crate::specs::Shown::on_cell, words::specs::Cells::yes_cell))]
 pub(crate) fn channel(t: Text, c: Channel, row: usize) -> Text
     ensures { result ≡ typed t (channel_cell c row) }
 {

@@ -14,6 +14,7 @@ use texts::{Text, glyph, push};
 pub const LINES: usize = 14;
 
 // A fact of the four channels.
+#[tactic(auto, unfolding(texts::specs::Kept::typed, crate::specs::Shown::channels_line, texts::specs::Spelled::spelled))]
 fn channels_line(d: Ctc, row: usize) -> Text
     ensures { result ≡ typed no_text (channels_line d row) }
 {
@@ -25,6 +26,7 @@ fn channels_line(d: Ctc, row: usize) -> Text
 }
 
 // What the device has beside its channels.
+#[tactic(auto, unfolding(texts::specs::Kept::typed, crate::specs::Shown::device_line, texts::specs::Spelled::spelled))]
 fn device_line(d: Ctc) -> Text
     ensures { result ≡ typed no_text (device_line d) }
 {
@@ -36,6 +38,7 @@ fn device_line(d: Ctc) -> Text
 }
 
 // Line n of a device, with its line feed.
+#[tactic(auto, unfolding(crate::specs::Shown::shown_ctc, texts::specs::Spelled::spelled))]
 pub fn line(d: Ctc, n: usize) -> Text
     ensures { result ≡ typed no_text (shown_ctc d n) }
 {
