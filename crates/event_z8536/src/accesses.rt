@@ -20,6 +20,7 @@ fn controls(e: Event) -> bool
     accesses(e) & (e.a == CONTROL)
 }
 
+#[tactic(auto, unfolding(z8536::specs::Z8536::register_of))]
 fn register_of(z: Z8536, a: u32) -> u32
     ensures { result ≡ register_of z a }
 {
@@ -40,6 +41,7 @@ fn register_of(z: Z8536, a: u32) -> u32
 }
 
 // The Z8036 event at that register.
+#[tactic(auto, unfolding(z8536::specs::Z8536::at_register))]
 pub(crate) fn at_register(z: Z8536, e: Event) -> Event
     ensures { result ≡ at_register z e }
 {
@@ -53,6 +55,7 @@ pub(crate) fn at_register(z: Z8536, e: Event) -> Event
 }
 
 // Whether a control write sets the pointer.
+#[tactic(auto, unfolding(z8536::specs::Z8536::points))]
 pub(crate) fn points(z: Z8536, e: Event) -> bool
     ensures { result ≡ points z e }
 {
@@ -61,6 +64,7 @@ pub(crate) fn points(z: Z8536, e: Event) -> bool
 }
 
 // Whether an access with this code ends the pointer state.
+#[tactic(auto, unfolding(z8536::specs::Z8536::ends))]
 fn ends(e: Event, code: u8) -> bool
     ensures { result ≡ ends e code }
 {
@@ -68,6 +72,7 @@ fn ends(e: Event, code: u8) -> bool
 }
 
 // The record after what came of an event in the core.
+#[tactic(auto, unfolding(z8536::specs::Z8536::after_core))]
 pub(crate) fn after_core(z: Z8536, e: Event, o: Outcome) -> Z8536
     ensures { result ≡ after_core z e o }
 {
@@ -87,12 +92,14 @@ pub(crate) fn after_core(z: Z8536, e: Event, o: Outcome) -> Z8536
     }
 }
 
+#[tactic(auto, unfolding(z8536::specs::Z8536::no_address))]
 pub(crate) fn has_no_address(e: Event) -> bool
     ensures { result ≡ no_address e }
 {
     accesses(e) & (CONTROL < e.a)
 }
 
+#[tactic(auto, unfolding(z8536::specs::Z8536::no_pointer))]
 pub(crate) fn has_no_pointer(e: Event) -> bool
     ensures { result ≡ no_pointer e }
 {

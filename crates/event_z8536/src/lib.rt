@@ -41,6 +41,7 @@ fn unsound(z: Z8536) -> OutcomeZ8536
 }
 
 // An answer with nothing done in the core.
+#[tactic(auto, unfolding(z8536::specs::Z8536::stands, rules::specs::Events::answer_of))]
 fn stands(code: u8, z: Z8536) -> OutcomeZ8536
     ensures { result ≡ stands code z }
 {
@@ -62,6 +63,7 @@ fn stands(code: u8, z: Z8536) -> OutcomeZ8536
 }
 
 // A control write that sets the pointer.
+#[tactic(auto, unfolding(z8536::specs::Z8536::pointing))]
 fn point(z: Z8536, e: Event) -> OutcomeZ8536
     ensures { result ≡ pointing z e }
 {
@@ -81,6 +83,7 @@ fn point(z: Z8536, e: Event) -> OutcomeZ8536
 }
 
 // The Z8036 event at that register.
+#[tactic(auto, unfolding(z8536::specs::Z8536::accessed))]
 fn access(z: Z8536, e: Event) -> OutcomeZ8536
     ensures { result ≡ accessed z e }
 {
@@ -94,6 +97,7 @@ fn access(z: Z8536, e: Event) -> OutcomeZ8536
 }
 
 // Any record and any event, to an answer beside the record.
+#[tactic(auto, unfolding(z8536::specs::Z8536::event_z8536))]
 pub fn event(z: Z8536, e: Event) -> OutcomeZ8536
     ensures { result ≡ event_z8536 z e }
 {
