@@ -6,7 +6,6 @@ use mathlib.Core.Bool.{Bool}
 use native.Mathlib.Omega.{arith}
 use Rattle.rules.specs.declared.Device.{Device}
 use Rattle.rules.specs.declared.Event.{Event}
-use Rattle.rules.specs.declared.Effect.{Effect}
 use Rattle.rows.specs.Rows.{reached_by, iei_from, part_of}
 use Rattle.row_visit.specs.Visits.{one_fewer}
 

@@ -10,6 +10,7 @@ use rows::{RowAnswer, Shown};
 use rules::{Device, Effect, Event, Report};
 
 // Whether the row has no device, or more than eight, or none of the number that is named.
+#[tactic(auto, unfolding(crate::specs::Visits::refused_of))]
 fn misfit(s: Pass) -> bool
     ensures { result ≡ refused_of s }
 {
@@ -19,6 +20,7 @@ fn misfit(s: Pass) -> bool
 }
 
 // The code of an event, after the pass that looked.
+#[tactic(auto, unfolding(crate::specs::Visits::verdict_of))]
 fn verdict(s: Pass) -> u8
     ensures { result ≡ verdict_of s }
 {
@@ -35,6 +37,7 @@ fn verdict(s: Pass) -> u8
 }
 
 // The pass that acts, before the first device.
+#[tactic(auto, unfolding(crate::specs::Visits::acting_of))]
 pub fn acting(s: Pass) -> Pass
     ensures { result ≡ acting_of s }
 {
@@ -58,6 +61,7 @@ fn effect(d: Device, v: u8) -> Effect
 }
 
 // What an event that reaches a device does to it, and nothing where it does not.
+#[tactic(auto, unfolding(rows::specs::Rows::reached_by))]
 fn touched(does: bool, e: Event, d: Device) -> Effect
     ensures { result ≡ reached_by does e d }
 {
@@ -76,6 +80,7 @@ fn touched(does: bool, e: Event, d: Device) -> Effect
 }
 
 // With IEI from the one before.
+#[tactic(auto, unfolding(rows::specs::Rows::iei_from))]
 fn joined(high: bool, d: Device) -> Device
     ensures { result ≡ iei_from high d }
 {
@@ -103,6 +108,7 @@ fn part(does: bool, e: Event, place: usize, high: bool, d: Device) -> Effect
 }
 
 // T goes to all, every other kind to the one that it reaches.
+#[tactic(auto, unfolding(crate::specs::Visits::does_of))]
 fn does(s: Pass, hit: bool) -> bool
     ensures { result ≡ does_of s hit }
 {
@@ -110,6 +116,7 @@ fn does(s: Pass, hit: bool) -> bool
 }
 
 // What the pass does to a device.
+#[tactic(auto, unfolding(crate::specs::Visits::parted_of))]
 fn parted(hit: bool, d: Device, s: Pass) -> Effect
     ensures { result ≡ parted_of hit d s }
 {
@@ -122,6 +129,7 @@ fn parted(hit: bool, d: Device, s: Pass) -> Effect
 }
 
 // What an answer says of a device.
+#[tactic(auto, unfolding(rows::specs::Rows::shown_of))]
 fn shown(r: Effect) -> Shown
     ensures { result ≡ shown_of r }
 {
@@ -138,6 +146,7 @@ fn shown(r: Effect) -> Shown
 }
 
 // The answer's places, with that of this device.
+#[tactic(auto, unfolding(crate::specs::Visits::shows_at))]
 fn shows_at(s: Pass, r: Effect) -> [Shown; 8]
     ensures { result ≡ shows_at s r }
 {
@@ -155,6 +164,7 @@ fn shows_at(s: Pass, r: Effect) -> [Shown; 8]
 }
 
 // The answer, with this device; the value is that of the one reached.
+#[tactic(auto, unfolding(crate::specs::Visits::filled_of))]
 fn filled(hit: bool, s: Pass, r: Effect) -> RowAnswer
     ensures { result ≡ filled_of hit s r }
 {
@@ -174,6 +184,7 @@ fn filled(hit: bool, s: Pass, r: Effect) -> RowAnswer
 }
 
 // The pass at one device.
+#[tactic(auto, unfolding(crate::specs::Visits::acted_of))]
 pub(crate) fn acted(d: Device, s: Pass) -> Seen
     ensures { result ≡ acted_of d s }
 {

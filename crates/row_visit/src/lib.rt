@@ -38,6 +38,7 @@ pub struct Seen {
 }
 
 // A pass at one device of the row.
+#[tactic(auto, unfolding(crate::specs::Visits::visit_of))]
 pub fn visit(d: Device, s: Pass) -> Seen
     ensures { result ≡ visit_of d s }
 {

@@ -8,6 +8,7 @@ use rows::{RowAnswer, RowEvent, Shown};
 use rules::{Device, Event, Report};
 
 // Whether a kind of event names a device.
+#[tactic(auto, unfolding(rows::specs::Rows::names))]
 pub(crate) fn names(e: Event) -> bool
     ensures { result ≡ names_of e }
 {
@@ -16,6 +17,7 @@ pub(crate) fn names(e: Event) -> bool
 }
 
 // How many devices come before the one that is named; an event that names none begins at the first.
+#[tactic(auto, unfolding(crate::specs::Visits::to_of))]
 fn to_of(e: RowEvent) -> u32
     ensures { result ≡ to_of e }
 {
@@ -45,6 +47,7 @@ fn dark() -> Shown
 }
 
 // An answer of which only the code is known.
+#[tactic(auto, unfolding(rows::specs::Rows::eight_of))]
 fn dark_answer(code: u8) -> RowAnswer
     ensures { result ≡ dark_answer code }
 {
@@ -57,6 +60,7 @@ fn dark_answer(code: u8) -> RowAnswer
 }
 
 // A pass before the first device.
+#[tactic(auto, unfolding(crate::specs::Visits::pass_begun))]
 pub(crate) fn begin(e: RowEvent, looks: bool, acts: bool, shows: bool, code: u8) -> Pass
     ensures { result ≡ pass_begun e looks acts shows code }
 {
@@ -76,6 +80,7 @@ pub(crate) fn begin(e: RowEvent, looks: bool, acts: bool, shows: bool, code: u8)
 }
 
 // The pass that looks, before the first device.
+#[tactic(auto, unfolding(crate::specs::Visits::looking_of))]
 pub fn looking(e: RowEvent) -> Pass
     ensures { result ≡ looking_of e }
 {
@@ -83,6 +88,7 @@ pub fn looking(e: RowEvent) -> Pass
 }
 
 // Whether the event reaches this device: K the first that requests, any other kind the one at its place.
+#[tactic(auto, unfolding(crate::specs::Visits::here_of))]
 pub(crate) fn here(d: Device, s: Pass) -> bool
     ensures { result ≡ here_of d s }
 {
@@ -92,6 +98,7 @@ pub(crate) fn here(d: Device, s: Pass) -> bool
     !s.found & (s.to == 0)
 }
 
+#[tactic(auto, unfolding(crate::specs::Visits::one_fewer))]
 fn less_one(n: u32) -> u32
     ensures { result ≡ one_fewer n }
 {
@@ -102,6 +109,7 @@ fn less_one(n: u32) -> u32
 }
 
 // The next place, and past eight 9.
+#[tactic(auto, unfolding(crate::specs::Visits::next_place))]
 fn next_place(p: usize) -> usize
     ensures { result ≡ next_place p }
 {
@@ -112,6 +120,7 @@ fn next_place(p: usize) -> usize
 }
 
 // The pass at the next device.
+#[tactic(auto, unfolding(crate::specs::Visits::onward))]
 pub(crate) fn onward(s: Pass, hit: bool, high: bool, sound: bool, a: RowAnswer) -> Pass
     ensures { result ≡ onward_of s hit high sound a }
 {
@@ -131,6 +140,7 @@ pub(crate) fn onward(s: Pass, hit: bool, high: bool, sound: bool, a: RowAnswer) 
 }
 
 // Whether a device is sound, and its IEI is the IEO of the one before; that of the first is free.
+#[tactic(auto, unfolding(crate::specs::Visits::follows_of))]
 fn follows(d: Device, s: Pass) -> bool
     ensures { result ≡ follows_of d s }
 {
@@ -138,6 +148,7 @@ fn follows(d: Device, s: Pass) -> bool
 }
 
 // The code of the device that the event reaches.
+#[tactic(auto, unfolding(crate::specs::Visits::code_seen))]
 fn code_seen(hit: bool, d: Device, s: Pass) -> u8
     ensures { result ≡ code_seen hit d s }
 {
@@ -150,6 +161,7 @@ fn code_seen(hit: bool, d: Device, s: Pass) -> u8
 }
 
 // The look at one device.
+#[tactic(auto, unfolding(crate::specs::Visits::looked_of))]
 pub(crate) fn looked(d: Device, s: Pass) -> Pass
     ensures { result ≡ looked_of d s }
 {
