@@ -1,6 +1,7 @@
 -- Where an account may begin nothing is held: by a port that is not enabled, right after an event that resets it, disables it or sets it
 -- up again, and right after the write that enables it.
 -- Assumes nothing.
+use Rattle.std.specs.Prelude.{◌==◌}
 use Prim.Native.Nat.{ℕ, ◌+◌, ◌*◌, ◌<◌}
 use mathlib.Core.Path.{◌≡◌, refl, ap, ◌∙◌}
 use mathlib.Core.Bool.{Bool, true, false, not, ◌&&◌, ◌||◌, So, and-false}
@@ -12,7 +13,6 @@ use Rattle.rules.specs.declared.Kind.{Kind}
 use Rattle.rules.specs.declared.Kind.TheVariants.{Master, Config, PortMode, Handshake}
 use Rattle.rules.specs.declared.Pattern.{Pattern}
 use Rattle.rules.specs.declared.Transfer.{Transfer}
-use Rattle.basics.specs.Signs.{◌==◌}
 use Rattle.basics.specs.Byte.{bit}
 use Rattle.rules.specs.Record.{Shaped, transfer_at, vacant, reset_of}
 use Rattle.rules.specs.Registers.{reset, port_kind, kind_in, kind_of, port_on, port_enabled}

@@ -1,5 +1,6 @@
 -- R, of a port with handshake: the data of an input port gives its front byte; any other read leaves the port as it is.
 -- Assumes nothing.
+use Rattle.std.specs.Prelude.{◌==◌}
 use Prim.Native.Nat.{ℕ, ◌+◌, ◌-◌, ◌<◌}
 use mathlib.Core.Path.{◌≡◌, refl, sym, ap, subst, ◌∙◌}
 use mathlib.Core.Bool.{true, false, ◌&&◌, So, and-false, and-true}
@@ -10,7 +11,7 @@ use borrow.Author.Tests.{eqb-true, eq-eqb, ne_eqb, leb-true, lt-leb}
 use Rattle.rules.specs.declared.Device.{Device}
 use Rattle.rules.specs.declared.Event.{Event}
 use Rattle.rules.specs.declared.Pattern.{Pattern}
-use Rattle.basics.specs.Signs.{◌==◌, within}
+use Rattle.basics.specs.Signs.{within}
 use Rattle.basics.specs.Byte.{bit}
 use Rattle.rules.specs.Record.{pattern_at, transfer_at}
 use Rattle.rules.specs.Registers.{kind_of}

@@ -1,5 +1,6 @@
 -- W, to a port with handshake: the data of an output port stores a byte; any other write that the port stands is a step that keeps it.
 -- Assumes nothing.
+use Rattle.std.specs.Prelude.{◌==◌}
 use Prim.Native.Nat.{ℕ, ◌+◌, ◌<◌}
 use mathlib.Core.Path.{◌≡◌, sym, ap, subst, ◌∙◌}
 use mathlib.Core.Bool.{true, false, not, ◌&&◌, So, and-false, and-true, or-false}
@@ -10,7 +11,6 @@ use Rattle.rules.specs.declared.Device.{Device}
 use Rattle.rules.specs.declared.Event.{Event}
 use Rattle.rules.specs.declared.Kind.{Kind}
 use Rattle.rules.specs.declared.Pattern.{Pattern}
-use Rattle.basics.specs.Signs.{◌==◌}
 use Rattle.rules.specs.Record.{pattern_at}
 use Rattle.rules.specs.Registers.{kind_of}
 use Rattle.rules.specs.Handshakes.{outputs, ore_at}

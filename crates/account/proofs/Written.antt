@@ -1,6 +1,7 @@
 -- The direct effect of a write keeps a port as it is, but for the writes that reset it, disable it or set it up again, and for a byte
 -- that an output port stores.
 -- Assumes nothing.
+use Rattle.std.specs.Prelude.{◌==◌}
 use Prim.Native.Nat.{ℕ, ◌+◌, ◌*◌, ◌<◌}
 use mathlib.Core.Path.{◌≡◌, refl, sym, ap, subst, ◌∙◌}
 use mathlib.Core.Bool.{Bool, true, false, not, ◌&&◌, ◌||◌, beq, So}
@@ -15,7 +16,6 @@ use Rattle.rules.specs.declared.Transfer.{Transfer}
 use Rattle.rules.specs.declared.Kind.{Kind}
 use Rattle.rules.specs.declared.Kind.TheVariants.{Master, Config, Vector, Polarity, Direction, Special, PortCommand, CounterCommand}
 use Rattle.rules.specs.declared.Kind.TheVariants.{Data, Current, Constant, CounterMode, CurrentVector, PortMode, Handshake, PatternPolarity, Transition, Mask, Absent}
-use Rattle.basics.specs.Signs.{◌==◌}
 use Rattle.basics.specs.Byte.{bit}
 use Rattle.rules.specs.With.{with_master, with_pair, with_port, with_pattern, with_ioe}
 use Rattle.rules.specs.Record.{pattern_at, transfer_at, blank, vacant, reset_of}

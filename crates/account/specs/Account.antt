@@ -1,8 +1,7 @@
 -- Paper 02, W-207, "Every byte leaves once": the account of a port with handshake, from what the host and the outside see: the events
 -- with their codes, and the lines before and after each. Ports A and B are one rule over their place.
 -- Assumes nothing.
-use Rattle.std.specs.Prelude.{ℕ, ◌+◌, ◌-◌, ◌*◌, ◌<◌, ◌≡◌, Bool, true, false, not, ◌&&◌, ◌||◌, List, [], ◌∷◌, ◌++◌, get_or, take}
-use Rattle.basics.specs.Signs.{if◌then◌else◌, ◌==◌}
+use Rattle.std.specs.Prelude.{ℕ, ◌+◌, ◌-◌, ◌*◌, ◌<◌, ◌≡◌, Bool, true, false, not, ◌&&◌, ◌||◌, List, [], ◌∷◌, ◌++◌, get_or, take, if◌then◌else◌, ◌==◌}
 use Rattle.basics.specs.Byte.{bit, rises}
 use Rattle.rules.specs.declared.Device.{Device}
 use Rattle.rules.specs.declared.Event.{Event}

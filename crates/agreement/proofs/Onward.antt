@@ -1,5 +1,6 @@
 -- Lines that are read where they stand: one line more of both files.
 -- Assumes nothing.
+use Rattle.std.specs.Prelude.{◌==◌}
 use Prim.Native.Nat.{ℕ, ◌+◌, ◌≤◌, ◌<◌}
 use mathlib.Core.Bool.{Bool, true, false, not, ◌&&◌, cond, and-false}
 use mathlib.Core.List.{List}
@@ -9,7 +10,6 @@ use native.Mathlib.Omega.{arith}
 use borrow.Author.Tests.{lt-ltb, le-ltb, eq-eqb, ne_eqb, ltb-true, ltb-false}
 use lib.Dec.{ltb}
 use lib.ListN.{length, take, drop, length-drop}
-use Rattle.basics.specs.Signs.{◌==◌}
 use Rattle.basics.proofs.Tests.{triple}
 use Rattle.chip.specs.declared.OutcomeChip.{OutcomeChip}
 use Rattle.chip.specs.Chips.{event_chip}

@@ -1,8 +1,7 @@
 -- A line of TRACE and one of BOARD, as they are kept. "The bench": "TRACE is an input of `trace`; BOARD has the board's answers, one line
 -- for each".
 -- Assumes nothing.
-use Rattle.std.specs.Prelude.{ℕ, ◌+◌, ◌&&◌, not, List, ltb, length, take, drop}
-use Rattle.basics.specs.Signs.{if◌then◌else◌, ◌==◌}
+use Rattle.std.specs.Prelude.{ℕ, ◌+◌, ◌&&◌, not, List, ltb, length, take, drop, if◌then◌else◌, ◌==◌}
 use Rattle.chip.specs.declared.Chip.{Chip}
 use Rattle.chip.specs.declared.OutcomeChip.{OutcomeChip}
 use Rattle.chip.specs.Chips.{event_chip}

@@ -1,8 +1,7 @@
 -- A lent buffer: bytes laid into it from a place, all of them, or none where they do not fit.
 -- Assumes nothing.
-use Rattle.std.specs.Prelude.{ℕ, ◌+◌, Bool, List, leb, length}
+use Rattle.std.specs.Prelude.{ℕ, ◌+◌, Bool, List, leb, length, if◌then◌else◌}
 use Rattle.std.proofs.Math.Seq.{paste}
-use Rattle.basics.specs.Signs.{if◌then◌else◌}
 
 -- whether the bytes w have room in the buffer from the place on
 unfoldable pub fits : List ℕ → ℕ → List ℕ → Bool

@@ -1,16 +1,6 @@
--- The signs of the definitions that the library has not: a choice, a test of two numbers, a range.
+-- A sign of the definitions that the library has not: a range. A choice and a test of two numbers are the library's.
 -- Assumes nothing.
-use Rattle.std.specs.Prelude.{ℕ, Bool, ◌&&◌, cond, eqb, leb}
-
--- the first where the test passes, else the second
-infixr 1 if◌then◌else◌
-abbrev pub if◌then◌else◌ : {A : Type 0} → Bool → A → A → A
-if b then x else y = cond b x y
-
--- whether two numbers are the same; `ltb a b` of the library tests a < b, `leb a b` tests a ≤ b
-infix 45 ◌==◌
-abbrev pub ◌==◌ : ℕ → ℕ → Bool
-a == b = eqb a b
+use Rattle.std.specs.Prelude.{ℕ, Bool, ◌&&◌, leb}
 
 -- low to high, both included
 abbrev pub within : ℕ → ℕ → ℕ → Bool

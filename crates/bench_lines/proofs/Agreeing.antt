@@ -1,5 +1,6 @@
 -- A line whose fields are each `-` or the answer's own, some missing at the end, agrees with the answer.
 -- Assumes nothing.
+use Rattle.std.specs.Prelude.{◌==◌}
 use Prim.Native.Char.{code}
 use Prim.Native.Nat.{ℕ, suc, zero, ◌+◌, ◌-◌, ◌≤◌, ◌<◌}
 use mathlib.Core.Bool.{true, false, not, ◌&&◌}
@@ -11,7 +12,6 @@ use native.Mathlib.Omega.{arith}
 use borrow.Author.Tests.{lt-ltb, le-ltb, le-leb, eq-eqb, ne_eqb}
 use lib.Dec.{ltb}
 use lib.ListN.{length, take, drop, get_or, length-append, length-drop}
-use Rattle.basics.specs.Signs.{◌==◌}
 use Rattle.basics.proofs.Tests.{both, not_so}
 use Rattle.rules.specs.declared.Answer.{Answer}
 use Rattle.texts.specs.Answers.{space, line_feed}

@@ -1,5 +1,6 @@
 -- "in the answer's form": the line of an answer itself is readable, and agrees with it.
 -- Assumes nothing.
+use Rattle.std.specs.Prelude.{if◌then◌else◌, ◌==◌}
 use Prim.Native.Char.{code}
 use Prim.Native.Nat.{ℕ, suc, zero, ◌+◌, ◌/◌, ◌%◌, ◌≤◌, ◌<◌}
 use mathlib.Core.Bool.{Bool, true, false, not, ◌&&◌, true≢false}
@@ -11,7 +12,6 @@ use borrow.Author.Tests.{lt-ltb, le-leb, eq-eqb, ne_eqb, ltb-true, eqb-true}
 use lib.Dec.{leb, ltb, lit<}
 use lib.ListN.{length, get_or, length-append}
 use Rattle.basics.specs.Byte.{num}
-use Rattle.basics.specs.Signs.{if◌then◌else◌, ◌==◌}
 use Rattle.basics.proofs.Tests.{both, not_so}
 use Rattle.rules.specs.declared.Answer.{Answer}
 use Rattle.texts.specs.Answers.{space, line_feed, glyph_of, decimal_text, hex_text, nibble_text, flag_text, count_text, counts_text, report_text, answer_text}

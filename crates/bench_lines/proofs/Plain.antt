@@ -1,5 +1,6 @@
 -- No leading zeros, by the first byte and the length.
 -- Assumes nothing.
+use Rattle.std.specs.Prelude.{◌==◌}
 use Prim.Native.Char.{code}
 use Prim.Native.Nat.{ℕ}
 use mathlib.Core.Bool.{Bool, true, false, not, ◌&&◌}
@@ -9,7 +10,6 @@ use native.Mathlib.Omega.{arith}
 use borrow.Author.Tests.{lt-ltb}
 use lib.Dec.{ltb}
 use lib.ListN.{length, get_or}
-use Rattle.basics.specs.Signs.{◌==◌}
 use Rattle.lines.specs.Lines.{no_leading_zeros}
 
 pub none-plain : (l : List ℕ) → length l ≡ 0 → no_leading_zeros l ≡ false

@@ -1,5 +1,6 @@
 -- Thirteen places, one after the other.
 -- Assumes nothing.
+use Rattle.std.specs.Prelude.{◌==◌}
 use Prim.Native.Nat.{ℕ, suc, ◌+◌, ◌≤◌, ◌<◌}
 use mathlib.Core.Bool.{Bool, true, false, ◌&&◌, not}
 use mathlib.Core.List.{List, [], ◌∷◌, ◌++◌}
@@ -11,7 +12,6 @@ use borrow.Author.Tests.{lt-ltb, le-leb, lt-leb}
 use lib.Dec.{ltb, leb}
 use lib.ListN.{length, take, drop, get_or, set, replicate, length-drop, length-set}
 use lib.Seq.{take_all, take-suc-set, get_or-drop, drop-drop}
-use Rattle.basics.specs.Signs.{◌==◌}
 use Rattle.basics.proofs.Tests.{by-test}
 use Rattle.texts.specs.Answers.{space}
 use Rattle.rules.specs.declared.Answer.{Answer}

@@ -1,8 +1,7 @@
 -- An answer and a line of BOARD that begins at a place of a buffer: "The comparison of an answer with a line of BOARD is a proved
 -- function on slices".
 -- Assumes nothing.
-use Rattle.std.specs.Prelude.{ℕ, ◌+◌, ◌&&◌, List, ltb, length, take, drop}
-use Rattle.basics.specs.Signs.{if◌then◌else◌}
+use Rattle.std.specs.Prelude.{ℕ, ◌+◌, ◌&&◌, List, ltb, length, take, drop, if◌then◌else◌}
 use Rattle.rules.specs.declared.Answer.{Answer}
 use Rattle.lines.specs.Pieces.{feed_at}
 use Rattle.bench_lines.specs.Compared.{compared_of}

@@ -1,9 +1,8 @@
 -- An answer and a line of BOARD: which fields differ. "The bench": "The comparison of an answer with a line of BOARD is a proved function
 -- on slices, defined in specs: which fields differ, exactly."
 -- Assumes nothing.
-use Rattle.std.specs.Prelude.{ℕ, ◌%◌, Bool, true, false, ◌&&◌, not, List, [], ◌∷◌, leb, ltb, length, take, get_or, replicate}
+use Rattle.std.specs.Prelude.{ℕ, ◌%◌, Bool, true, false, ◌&&◌, not, List, [], ◌∷◌, leb, ltb, length, take, get_or, replicate, if◌then◌else◌, ◌==◌}
 use Rattle.basics.specs.Byte.{num}
-use Rattle.basics.specs.Signs.{if◌then◌else◌, ◌==◌}
 use Rattle.rules.specs.declared.Answer.{Answer}
 use Rattle.texts.specs.Kept.{text_room}
 use Rattle.texts.specs.declared.Text.{Text}

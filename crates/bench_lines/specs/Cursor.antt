@@ -1,7 +1,6 @@
 -- A line read field by field, from a place on: of the code, and not of the issue.
 -- Assumes nothing.
-use Rattle.std.specs.Prelude.{ℕ, ◌+◌, ◌-◌, ◌≤◌, Bool, List, [], ◌∷◌, ◌≡◌, ltb, length, take, drop}
-use Rattle.basics.specs.Signs.{if◌then◌else◌}
+use Rattle.std.specs.Prelude.{ℕ, ◌+◌, ◌-◌, ◌≤◌, Bool, List, [], ◌∷◌, ◌≡◌, ltb, length, take, drop, if◌then◌else◌}
 use Rattle.bench_lines.specs.Fields.{fields_from}
 
 -- the fields from a place on, where there are more

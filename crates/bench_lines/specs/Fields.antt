@@ -3,8 +3,7 @@
 -- line feed.
 -- Assumes nothing.
 use Prim.Native.Char.{code}
-use Rattle.std.specs.Prelude.{ℕ, ◌+◌, ◌*◌, Bool, ◌&&◌, List, [], ◌∷◌, ◌++◌, leb, ltb, length, get_or}
-use Rattle.basics.specs.Signs.{if◌then◌else◌, ◌==◌}
+use Rattle.std.specs.Prelude.{ℕ, ◌+◌, ◌*◌, Bool, ◌&&◌, List, [], ◌∷◌, ◌++◌, leb, ltb, length, get_or, if◌then◌else◌, ◌==◌}
 use Rattle.texts.specs.Answers.{space}
 use Rattle.lines.specs.Lines.{digit_of, clocks_in, no_leading_zeros}
 

@@ -1,7 +1,6 @@
 -- "the fields that differ by name in words".
 -- Assumes nothing.
-use Rattle.std.specs.Prelude.{ℕ, List}
-use Rattle.basics.specs.Signs.{if◌then◌else◌, ◌==◌}
+use Rattle.std.specs.Prelude.{ℕ, List, if◌then◌else◌, ◌==◌}
 use Rattle.texts.specs.Spelled.{spelled}
 
 -- the name of the field at place i

@@ -1,8 +1,7 @@
 -- A line of BOARD walked byte by byte, beside the texts of an answer: of the code, and not of the issue.
 -- Assumes nothing.
 use Prim.Native.Char.{code}
-use Rattle.std.specs.Prelude.{ℕ, ◌+◌, ◌<◌, Bool, true, List, [], ◌∷◌, ◌++◌, ◌⊎◌, ◌≡◌, length, drop, get_or}
-use Rattle.basics.specs.Signs.{if◌then◌else◌}
+use Rattle.std.specs.Prelude.{ℕ, ◌+◌, ◌<◌, Bool, true, List, [], ◌∷◌, ◌++◌, ◌⊎◌, ◌≡◌, length, drop, get_or, if◌then◌else◌}
 use Rattle.rules.specs.declared.Answer.{Answer}
 use Rattle.texts.specs.Answers.{space, line_feed, glyph_of, decimal_text}
 use Rattle.bench_lines.specs.Fields.{hole}

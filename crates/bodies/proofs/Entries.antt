@@ -1,6 +1,7 @@
 -- One law over a list of entries: bodies laid one behind the other have the entries' lengths together, and each is found at its
 -- offset; and parts cut out of an image at the offsets are, one behind the other, the image again.
 -- Assumes nothing.
+use Rattle.std.specs.Prelude.{if◌then◌else◌, ◌==◌}
 use Prim.Native.Nat.{ℕ, zero, suc, ◌+◌, ◌≤◌, ◌<◌}
 use mathlib.Core.Path.{◌≡◌, refl, sym, ap, ap₂, subst, ◌∙◌}
 use mathlib.Core.Bool.{Bool, true, false, cond}
@@ -9,7 +10,6 @@ use native.Mathlib.Omega.{arith}
 use lib.Dec.{lit<}
 use lib.ListN.{length, take, drop, length-append, length-drop}
 use lib.Seq.{take_at, drop_at, take-add, length-take-le, get_or-drop}
-use Rattle.basics.specs.Signs.{if◌then◌else◌, ◌==◌}
 use Rattle.bodies.specs.Layout.{Entry, offset_from, size_in, sizes_from, part}
 use Rattle.bodies.specs.Written.{bodies_from}
 use Rattle.bodies.specs.Taken.{Bytes}

@@ -1,9 +1,9 @@
 -- What follows from the lists of entries, in the numbers of the papers: the contents, byte for byte, the offsets and the lengths.
 -- Assumes nothing.
+use Rattle.std.specs.Prelude.{◌==◌}
 use mathlib.Core.Path.{◌≡◌, refl}
 use mathlib.Core.Bool.{Bool, true, false, cond}
 use mathlib.Core.List.{[], ◌∷◌}
-use Rattle.basics.specs.Signs.{◌==◌}
 use Rattle.rules.specs.declared.Device.{Device}
 use Rattle.rules.specs.Record.{image_len}
 use Rattle.bodies.specs.Layout.{layout1, layout2, layout3, layout_of, length_of, contents_of}

@@ -1,8 +1,7 @@
 -- Paper 01, "The image": how an image is laid out, as data. A layout is one list of entries; contents, offsets and length follow from
 -- it. Another version of the image is another list.
 -- Assumes nothing.
-use Rattle.std.specs.Prelude.{ℕ, ◌+◌, ◌*◌, ◌/◌, ◌%◌, List, [], ◌∷◌, length, get_or, take, drop}
-use Rattle.basics.specs.Signs.{if◌then◌else◌, ◌==◌}
+use Rattle.std.specs.Prelude.{ℕ, ◌+◌, ◌*◌, ◌/◌, ◌%◌, List, [], ◌∷◌, length, get_or, take, drop, if◌then◌else◌, ◌==◌}
 use Rattle.rules.specs.declared.Device.{Device}
 
 -- an entry: the id of a body and its length

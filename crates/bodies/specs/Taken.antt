@@ -1,9 +1,8 @@
 -- Paper 01, "The image": what each body tells of a record, and that its unused bits are 0; and the record that an image tells.
 -- Body 1 gives a record; bodies 2 to 5 each put into it what they tell.
 -- Assumes nothing.
-use Rattle.std.specs.Prelude.{ℕ, ◌+◌, ◌*◌, ◌<◌, Bool, false, not, ◌&&◌, List, [], ◌∷◌, ltb, get_or}
+use Rattle.std.specs.Prelude.{ℕ, ◌+◌, ◌*◌, ◌<◌, Bool, false, not, ◌&&◌, List, [], ◌∷◌, ltb, get_or, ◌==◌}
 use Rattle.std.specs.Bool.{beq}
-use Rattle.basics.specs.Signs.{◌==◌}
 use Rattle.basics.specs.Byte.{bit}
 use Rattle.rules.specs.declared.Source.{Source}
 use Rattle.rules.specs.declared.Counter.{Counter}

@@ -20,8 +20,8 @@
 --   | of a Z8536: pointer, pointed                        | 6                                      |
 --
 -- Assumes nothing.
-use Rattle.std.specs.Prelude.{ℕ, zero, suc, ◌+◌, ◌-◌, ◌/◌, ◌%◌, Bool, true, false, List, [], ◌∷◌, ◌++◌}
-use Rattle.basics.specs.Signs.{if◌then◌else◌, ◌==◌, within}
+use Rattle.std.specs.Prelude.{ℕ, zero, suc, ◌+◌, ◌-◌, ◌/◌, ◌%◌, Bool, true, false, List, [], ◌∷◌, ◌++◌, if◌then◌else◌, ◌==◌}
+use Rattle.basics.specs.Signs.{within}
 use Rattle.rules.specs.declared.Device.{Device}
 use Rattle.rules.specs.declared.Transfer.{Transfer}
 use Rattle.basics.specs.Byte.{byte_in}

@@ -1,7 +1,6 @@
 -- Save and restore of either device. Its image tells by the first byte which it is: paper 02, W-209, "first bytes 03 and 06".
 -- Assumes nothing.
-use Rattle.std.specs.Prelude.{ℕ, Bool, List, get_or}
-use Rattle.basics.specs.Signs.{if◌then◌else◌, ◌==◌}
+use Rattle.std.specs.Prelude.{ℕ, Bool, List, get_or, if◌then◌else◌, ◌==◌}
 use Rattle.bodies.specs.Layout.{layout3, layout_of, length_of}
 use Rattle.image.specs.declared.Restored.{Restored}
 use Rattle.image.specs.declared.RestoredZ8536.{RestoredZ8536}

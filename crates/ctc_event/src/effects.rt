@@ -1,12 +1,11 @@
 // What an accepted event does: the record, the value and the zero counts.
-ghost use Rattle.std.specs.Prelude.{◌≡◌, ◌<◌, true};
+ghost use Rattle.std.specs.Prelude.{◌≡◌, ◌<◌, true, ◌==◌};
 ghost use Rattle.basics.specs.Byte.{bit};
 ghost use Rattle.ctc_rules.specs.Record.{channel_at, reset_ctc};
 ghost use Rattle.ctc_rules.specs.Channels.{level_channel};
 ghost use Rattle.ctc_rules.specs.Clocks.{ran_ctc};
 ghost use Rattle.ctc_rules.specs.Sound.{sound_ctc};
 ghost use Rattle.ctc_rules.specs.Events.{code_ctc, plain_ctc, written_ctc, levels_ctc, clocks_ctc, effect_ctc};
-ghost use Rattle.basics.specs.Signs.{◌==◌};
 ghost use Rattle.ctc_rules.specs.Set.{set_iei};
 
 use crate::{channels, serving};

@@ -1,7 +1,6 @@
 -- What save and restore of a CTC answer: paper 02, W-213: "the image begins with 11H"; its refusals are W-205's.
 -- Assumes nothing.
-use Rattle.std.specs.Prelude.{ℕ, Bool, not, ◌&&◌, List, ◌++◌, ltb, length, take, drop}
-use Rattle.basics.specs.Signs.{if◌then◌else◌, ◌==◌}
+use Rattle.std.specs.Prelude.{ℕ, Bool, not, ◌&&◌, List, ◌++◌, ltb, length, take, drop, if◌then◌else◌, ◌==◌}
 use Rattle.bodies.specs.Layout.{contents_len, length_of, contents_of}
 use Rattle.image.specs.Image.{agree}
 use Rattle.ctc_rules.specs.declared.Ctc.{Ctc}

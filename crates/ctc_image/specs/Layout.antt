@@ -1,7 +1,6 @@
 -- docs/CTC.md, "Image": the bodies of a CTC's record, byte for byte, and what they tell. Every field of the record stands in one of them.
 -- Assumes nothing.
-use Rattle.std.specs.Prelude.{ℕ, ◌+◌, ◌*◌, Bool, ◌&&◌, List, [], ◌∷◌, ◌++◌, ltb}
-use Rattle.basics.specs.Signs.{if◌then◌else◌, ◌==◌}
+use Rattle.std.specs.Prelude.{ℕ, ◌+◌, ◌*◌, Bool, ◌&&◌, List, [], ◌∷◌, ◌++◌, ltb, if◌then◌else◌, ◌==◌}
 use Rattle.basics.specs.Byte.{bit}
 use Rattle.bodies.specs.Layout.{Layout, body_in}
 use Rattle.bodies.specs.Written.{image_in}

@@ -1,7 +1,6 @@
 -- A channel over k counts and over n clocks, one by one and by division.
 -- Assumes nothing.
-use Rattle.std.specs.Prelude.{ℕ, ◌+◌, ◌/◌, ◌%◌, not, ◌&&◌, ◌||◌}
-use Rattle.basics.specs.Signs.{if◌then◌else◌, ◌==◌}
+use Rattle.std.specs.Prelude.{ℕ, ◌+◌, ◌/◌, ◌%◌, not, ◌&&◌, ◌||◌, if◌then◌else◌, ◌==◌}
 use Rattle.basics.specs.Byte.{num}
 use Rattle.theorems.specs.Free.{full_of, terminals_after, count_after}
 use Rattle.ctc_rules.specs.declared.Channel.{Channel}

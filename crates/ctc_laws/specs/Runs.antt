@@ -1,7 +1,6 @@
 -- Calls of a CTC one after the other, each in the record that the one before it left: events, and ends of service.
 -- Assumes nothing.
-use Rattle.std.specs.Prelude.{ℕ, ◌+◌, Bool, true, false, ◌&&◌, List, [], ◌∷◌, get_or}
-use Rattle.basics.specs.Signs.{◌==◌}
+use Rattle.std.specs.Prelude.{ℕ, ◌+◌, Bool, true, false, ◌&&◌, List, [], ◌∷◌, get_or, ◌==◌}
 use Rattle.basics.specs.Runs.{Course, record_through, answers_through, course_of, course_on, course_cut}
 use Rattle.rules.specs.declared.Event.{Event}
 use Rattle.rules.specs.Events.{is_t}

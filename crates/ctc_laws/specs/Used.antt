@@ -1,7 +1,6 @@
 -- docs/CTC.md, "Events and their answers": "Numbers that a kind does not use are ignored.": which numbers each kind uses.
 -- Assumes nothing.
-use Rattle.std.specs.Prelude.{◌||◌}
-use Rattle.basics.specs.Signs.{if◌then◌else◌}
+use Rattle.std.specs.Prelude.{◌||◌, if◌then◌else◌}
 use Rattle.rules.specs.declared.Event.{Event}
 use Rattle.rules.specs.Events.{is_x, is_w, is_k, unknown}
 use Rattle.theorems.specs.Used.{of}

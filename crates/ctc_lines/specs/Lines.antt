@@ -1,8 +1,7 @@
 -- What a line of a CTC's trace says: the lines of paper 01, and one more.
 -- Assumes nothing.
 use Prim.Native.Char.{code}
-use Rattle.std.specs.Prelude.{ℕ, Bool, ◌&&◌, List, length, get_or}
-use Rattle.basics.specs.Signs.{if◌then◌else◌, ◌==◌}
+use Rattle.std.specs.Prelude.{ℕ, Bool, ◌&&◌, List, length, get_or, if◌then◌else◌, ◌==◌}
 use Rattle.texts.specs.declared.Text.{Text}
 use Rattle.texts.specs.Kept.{bytes_of}
 use Rattle.lines.specs.Lines.{line_of, event_in}

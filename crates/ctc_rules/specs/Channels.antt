@@ -1,7 +1,6 @@
 -- docs/CTC.md, "Counting", "Clock", "Edges" and "Words": one channel.
 -- Assumes nothing.
-use Rattle.std.specs.Prelude.{ℕ, ◌+◌, ◌*◌, ◌/◌, ◌%◌, Bool, true, false, not, ◌&&◌, ◌||◌}
-use Rattle.basics.specs.Signs.{if◌then◌else◌, ◌==◌}
+use Rattle.std.specs.Prelude.{ℕ, ◌+◌, ◌*◌, ◌/◌, ◌%◌, Bool, true, false, not, ◌&&◌, ◌||◌, if◌then◌else◌, ◌==◌}
 use Rattle.basics.specs.Byte.{bit, differs, rises}
 use Rattle.rules.specs.Counters.{less_one}
 use Rattle.ctc_rules.specs.declared.Channel.{Channel}

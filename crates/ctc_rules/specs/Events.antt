@@ -1,7 +1,6 @@
 -- docs/CTC.md, "Events and their answers". The kinds are paper 01's, 0 to 6: X, W, R, P, T, K, E.
 -- Assumes nothing.
-use Rattle.std.specs.Prelude.{ℕ, ◌*◌, ◌/◌, ◌%◌, Bool, false, not, ◌&&◌, ◌||◌, ltb}
-use Rattle.basics.specs.Signs.{if◌then◌else◌, ◌==◌}
+use Rattle.std.specs.Prelude.{ℕ, ◌*◌, ◌/◌, ◌%◌, Bool, false, not, ◌&&◌, ◌||◌, ltb, if◌then◌else◌, ◌==◌}
 use Rattle.basics.specs.Byte.{bit}
 use Rattle.rules.specs.declared.Event.{Event}
 use Rattle.rules.specs.Events.{is_x, is_w, is_r, is_p, is_t, is_k, is_e, unknown}

@@ -1,7 +1,6 @@
 -- docs/CTC.md, "Interrupts and the end of service". Channels stand in their order: "Channel 0 is the highest."
 -- Assumes nothing.
-use Rattle.std.specs.Prelude.{ℕ, ◌+◌, ◌*◌, ◌/◌, Bool, true, false, not, ◌&&◌, ltb}
-use Rattle.basics.specs.Signs.{if◌then◌else◌, ◌==◌}
+use Rattle.std.specs.Prelude.{ℕ, ◌+◌, ◌*◌, ◌/◌, Bool, true, false, not, ◌&&◌, ltb, if◌then◌else◌, ◌==◌}
 use Rattle.rules.specs.declared.Lines.{Lines}
 use Rattle.ctc_rules.specs.declared.Ctc.{Ctc}
 use Rattle.ctc_rules.specs.Set.{set_ip, set_ius, set_channel}

@@ -1,7 +1,6 @@
 -- docs/CTC.md, "The device" and "Reset": the channels by their place, the bits of a control register, and what a reset leaves.
 -- Assumes nothing.
-use Rattle.std.specs.Prelude.{ℕ, Bool, true, false, List, [], ◌∷◌, ◌≡◌, length, get_or}
-use Rattle.basics.specs.Signs.{if◌then◌else◌}
+use Rattle.std.specs.Prelude.{ℕ, Bool, true, false, List, [], ◌∷◌, ◌≡◌, length, get_or, if◌then◌else◌}
 use Rattle.basics.specs.Byte.{bit}
 use Rattle.ctc_rules.specs.declared.Channel.{Channel}
 use Rattle.ctc_rules.specs.declared.Ctc.{Ctc}

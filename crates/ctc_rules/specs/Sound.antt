@@ -1,7 +1,6 @@
 -- docs/CTC.md, "Sound means": a named clause for each rule.
 -- Assumes nothing.
-use Rattle.std.specs.Prelude.{◌%◌, Bool, not, ◌&&◌, ltb}
-use Rattle.basics.specs.Signs.{◌==◌}
+use Rattle.std.specs.Prelude.{◌%◌, Bool, not, ◌&&◌, ltb, ◌==◌}
 use Rattle.rules.specs.Sound.{only}
 use Rattle.ctc_rules.specs.declared.Channel.{Channel}
 use Rattle.ctc_rules.specs.declared.Ctc.{Ctc}

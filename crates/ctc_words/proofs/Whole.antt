@@ -1,5 +1,6 @@
 -- Every line of a CTC has room in a text. A label has 16 bytes, a column 12.
 -- Assumes nothing.
+use Rattle.std.specs.Prelude.{if◌then◌else◌, ◌==◌}
 use Prim.Native.Nat.{ℕ, zero, suc, ◌-◌, ◌≤◌}
 use mathlib.Core.Bool.{Bool, true, false}
 use mathlib.Core.List.{List, [], ◌∷◌}
@@ -7,7 +8,6 @@ use mathlib.Core.Path.{◌≡◌}
 use native.Mathlib.Omega.{arith}
 use lib.Dec.{ltb}
 use lib.ListN.{length, get_or, length-append}
-use Rattle.basics.specs.Signs.{if◌then◌else◌, ◌==◌}
 use Rattle.texts.specs.Kept.{text_room, no_text, typed, bytes_of}
 use Rattle.texts.specs.Spelled.{spelled}
 use Rattle.texts.proofs.Keeping.{bytes-line}

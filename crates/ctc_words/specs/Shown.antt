@@ -1,7 +1,6 @@
 -- A CTC in words: one fact a line, a column of twelve bytes for each channel. The facts are docs/CTC.md's, "The device".
 -- Assumes nothing.
-use Rattle.std.specs.Prelude.{ℕ, ◌-◌, ◌/◌, Bool, ◌&&◌, List, [], ◌∷◌, ◌++◌, ltb, get_or}
-use Rattle.basics.specs.Signs.{if◌then◌else◌, ◌==◌}
+use Rattle.std.specs.Prelude.{ℕ, ◌-◌, ◌/◌, Bool, ◌&&◌, List, [], ◌∷◌, ◌++◌, ltb, get_or, if◌then◌else◌, ◌==◌}
 use Rattle.texts.specs.Answers.{line_feed, glyph_of}
 use Rattle.texts.specs.Spelled.{spelled}
 use Rattle.words.specs.Cells.{bit_cell, yes_cell, number_cell}

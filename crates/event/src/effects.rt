@@ -1,6 +1,5 @@
 // What an accepted event does: the record, the value and the report.
-ghost use Rattle.std.specs.Prelude.{◌≡◌, false, not, ◌&&◌};
-ghost use Rattle.basics.specs.Signs.{◌==◌};
+ghost use Rattle.std.specs.Prelude.{◌≡◌, false, not, ◌&&◌, ◌==◌};
 ghost use Rattle.rules.specs.Registers.{reset};
 ghost use Rattle.rules.specs.Report.{no_report};
 ghost use Rattle.rules.specs.Events.{too_large, effect as plain, write_effect, read_effect, outside_set, pins_effect, clocks_effect, acknowledge_effect, iei_effect, effect_of};

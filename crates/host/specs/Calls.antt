@@ -1,8 +1,7 @@
 -- What the calls of a host do to its two buffers: "the device at rest is its image, in a buffer that the host owns". A call is a restore of
 -- the state, the call by value, and a save of the record after it.
 -- Assumes nothing.
-use Rattle.std.specs.Prelude.{ℕ, not, List, ◌++◌, ltb, length, drop}
-use Rattle.basics.specs.Signs.{if◌then◌else◌, ◌==◌}
+use Rattle.std.specs.Prelude.{ℕ, not, List, ◌++◌, ltb, length, drop, if◌then◌else◌, ◌==◌}
 use Rattle.rules.specs.declared.Event.{Event}
 use Rattle.rules.specs.Events.{event_of}
 use Rattle.z8536.specs.Z8536.{event_z8536}

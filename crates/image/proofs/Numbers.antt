@@ -1,5 +1,6 @@
 -- An image by its numbers is the image in its layout: the contents, byte for byte, and where each body stands.
 -- Assumes nothing.
+use Rattle.std.specs.Prelude.{◌==◌}
 use Prim.Native.Nat.{ℕ}
 use mathlib.Core.Path.{◌≡◌, refl, ◌∙◌}
 use mathlib.Core.Bool.{true}
@@ -7,7 +8,6 @@ use mathlib.Core.List.{List, [], ◌∷◌}
 use lib.Dec.{lit<}
 use lib.ListN.{get_or, drop}
 use lib.Seq.{get_or-take, get_or-drop}
-use Rattle.basics.specs.Signs.{◌==◌}
 use Rattle.bodies.specs.Layout.{layout1, layout2, layout3, contents_of, body_in}
 use Rattle.bodies.specs.Taken.{device_in, clear_in}
 use Rattle.image.specs.declared.Restored.{Restored}

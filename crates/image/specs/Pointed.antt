@@ -1,7 +1,6 @@
 -- Paper 02, W-209: what save and restore of a Z8536 answer.
 -- Assumes nothing.
-use Rattle.std.specs.Prelude.{ℕ, not, ◌&&◌, List, ◌++◌, ltb, length, get_or, drop}
-use Rattle.basics.specs.Signs.{if◌then◌else◌, ◌==◌}
+use Rattle.std.specs.Prelude.{ℕ, not, ◌&&◌, List, ◌++◌, ltb, length, get_or, drop, if◌then◌else◌, ◌==◌}
 use Rattle.z8536.specs.declared.Z8536.{Z8536}
 use Rattle.z8536.specs.Z8536.{fresh_z8536, sound_z8536}
 use Rattle.bodies.specs.Layout.{layout1, layout3, contents_len, length_of, body_in}

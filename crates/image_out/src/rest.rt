@@ -1,6 +1,5 @@
 // Bodies 2 to 5.
-ghost use Rattle.std.specs.Prelude.{◌≡◌, ◌+◌};
-ghost use Rattle.basics.specs.Signs.{if◌then◌else◌};
+ghost use Rattle.std.specs.Prelude.{◌≡◌, ◌+◌, if◌then◌else◌};
 ghost use Rattle.bodies.specs.Written.{counts_body, pins_body, lines_body, transfers_body};
 
 use rules::Device;

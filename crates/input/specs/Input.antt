@@ -1,8 +1,7 @@
 -- The lines of an input that are there already, in a lent buffer. Paper 01, "The trace program": "reads standard input: .. a line
 -- feed .. the last line feed may be missing."
 -- Assumes nothing.
-use Rattle.std.specs.Prelude.{ℕ, false, not, List, ltb, length, take, drop}
-use Rattle.basics.specs.Signs.{if◌then◌else◌, ◌==◌}
+use Rattle.std.specs.Prelude.{ℕ, false, not, List, ltb, length, take, drop, if◌then◌else◌, ◌==◌}
 use Rattle.texts.specs.declared.Text.{Text}
 use Rattle.lines.specs.declared.Cut.{Cut}
 use Rattle.texts.specs.Kept.{no_text}

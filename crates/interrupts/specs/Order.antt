@@ -1,7 +1,6 @@
 -- The sources from the highest down, as the code goes through them.
 -- Assumes nothing.
-use Rattle.std.specs.Prelude.{ℕ, ◌&&◌}
-use Rattle.basics.specs.Signs.{if◌then◌else◌}
+use Rattle.std.specs.Prelude.{ℕ, ◌&&◌, if◌then◌else◌}
 use Rattle.rules.specs.declared.Device.{Device}
 use Rattle.rules.specs.declared.Source.{Source}
 use Rattle.rules.specs.Record.{source_at}

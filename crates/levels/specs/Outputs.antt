@@ -1,7 +1,6 @@
 -- The counters' outputs that stand for the bits of a port, where no port has a handshake.
 -- Assumes nothing.
-use Rattle.std.specs.Prelude.{ℕ}
-use Rattle.basics.specs.Signs.{if◌then◌else◌, ◌==◌}
+use Rattle.std.specs.Prelude.{ℕ, if◌then◌else◌, ◌==◌}
 use Rattle.rules.specs.declared.Device.{Device}
 use Rattle.rules.specs.Record.{counter_at}
 use Rattle.rules.specs.PortData.{standing}

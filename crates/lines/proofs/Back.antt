@@ -1,6 +1,7 @@
 -- What is written reads back: a byte in two digits and a all_decimal number are the numbers that the definitions of a line give
 -- their digits.
 -- Assumes nothing.
+use Rattle.std.specs.Prelude.{if◌then◌else◌, ◌==◌}
 use Prim.Native.Char.{code}
 use Prim.Native.Nat.{ℕ, ◌+◌, ◌-◌, ◌*◌, ◌/◌, ◌%◌, ◌≤◌, ◌<◌}
 use mathlib.Core.Path.{◌≡◌, refl, sym, ap, ◌∙◌}
@@ -11,7 +12,6 @@ use native.Mathlib.Omega.{arith}
 use borrow.Author.Tests.{lt-ltb, le-ltb, le-leb, lt-leb, ne_eqb, ltb-true, ltb-false}
 use lib.Dec.{ltb, lit<}
 use lib.ListN.{length}
-use Rattle.basics.specs.Signs.{if◌then◌else◌, ◌==◌}
 use Rattle.lines.specs.Lines.{digit_of, number_of, all_decimal, value_of, clocks_in, no_leading_zeros, clocks_of, words_of, line_most, line_of, said}
 use Rattle.texts.specs.Answers.{space, decimal_digit, glyph_of, place_text, decimal_text}
 use Rattle.texts.proofs.Printed.{decimal-short}

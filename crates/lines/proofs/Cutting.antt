@@ -1,5 +1,6 @@
 -- A piece cut at its line feeds.
 -- Assumes nothing.
+use Rattle.std.specs.Prelude.{◌==◌}
 use Prim.Native.Nat.{ℕ, suc, ◌+◌, ◌≤◌, ◌<◌}
 use mathlib.Core.Bool.{Bool, true, false, cond}
 use mathlib.Core.List.{List, [], ◌∷◌}
@@ -10,7 +11,6 @@ use native.Mathlib.Omega.{arith}
 use borrow.Author.Tests.{eq-eqb, ne_eqb}
 use lib.ListN.{length, get_or, take, drop, drop_of_length-le}
 use lib.Seq.{drop-cons}
-use Rattle.basics.specs.Signs.{◌==◌}
 use Rattle.texts.specs.Answers.{line_feed}
 use Rattle.texts.specs.Kept.{no_text, pushed, typed}
 use Rattle.lines.specs.Lines.{says_of}

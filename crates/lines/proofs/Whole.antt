@@ -1,11 +1,11 @@
 -- An input read in pieces says what its lines say, wherever it was cut.
 -- Assumes nothing.
+use Rattle.std.specs.Prelude.{◌==◌}
 use Prim.Native.Nat.{ℕ}
 use mathlib.Core.Bool.{Bool, true, false, cond}
 use mathlib.Core.List.{List, [], ◌∷◌, ◌++◌, map, append_assoc}
 use mathlib.Core.Path.{◌≡◌, refl, sym, ap, ◌∙◌}
 use borrow.Author.Tests.{ne_eqb}
-use Rattle.basics.specs.Signs.{◌==◌}
 use Rattle.texts.specs.Answers.{line_feed}
 use Rattle.texts.specs.Kept.{no_text, pushed, typed}
 use Rattle.lines.specs.Lines.{line_of, says_of}

@@ -1,5 +1,6 @@
 -- A line's bytes as the numbers after its letter.
 -- Assumes nothing.
+use Rattle.std.specs.Prelude.{if◌then◌else◌, ◌==◌}
 use Prim.Native.Char.{code}
 use Prim.Native.Nat.{ℕ, zero, suc, ◌+◌, ◌-◌, ◌≤◌, ◌<◌}
 use mathlib.Core.Bool.{Bool, true, false, not, ◌&&◌, ◌||◌, or-true}
@@ -11,7 +12,6 @@ use borrow.Author.Tests.{lt-ltb, le-ltb, eq-eqb, ne_eqb}
 use lib.Dec.{ltb}
 use lib.ListN.{length, get_or, drop, length-drop, drop_of_length-le}
 use lib.Seq.{drop-cons}
-use Rattle.basics.specs.Signs.{if◌then◌else◌, ◌==◌}
 use Rattle.texts.specs.Answers.{space}
 use Rattle.lines.specs.Lines.{said, number_of, numbers_of, said_by, no_leading_zeros, clocks_in, clocks_of, words_of, line_most, line_of}
 use Rattle.lines.specs.declared.Line.TheVariants.{Unreadable}

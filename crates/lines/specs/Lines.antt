@@ -3,8 +3,8 @@
 -- Any other line is unreadable." A line is here the list of its bytes without the line feed; each has one meaning.
 -- Assumes nothing.
 use Prim.Native.Char.{code}
-use Rattle.std.specs.Prelude.{ℕ, ◌+◌, ◌-◌, ◌*◌, Bool, true, false, not, ◌&&◌, ◌||◌, List, [], ◌∷◌, leb, ltb, length}
-use Rattle.basics.specs.Signs.{if◌then◌else◌, ◌==◌, within}
+use Rattle.std.specs.Prelude.{ℕ, ◌+◌, ◌-◌, ◌*◌, Bool, true, false, not, ◌&&◌, ◌||◌, List, [], ◌∷◌, leb, ltb, length, if◌then◌else◌, ◌==◌}
+use Rattle.basics.specs.Signs.{within}
 use Rattle.rules.specs.declared.Event.{Event}
 use Rattle.texts.specs.Answers.{space}
 use Rattle.texts.specs.Kept.{bytes_of}

@@ -1,8 +1,7 @@
 -- The lines of an input, and of an input that comes in pieces. Paper 01, "The trace program": "reads standard input: ..
 -- a line feed .. the last line feed may be missing."
 -- Assumes nothing.
-use Rattle.std.specs.Prelude.{ℕ, suc, true, false, List, [], ◌∷◌, ◌++◌}
-use Rattle.basics.specs.Signs.{if◌then◌else◌, ◌==◌}
+use Rattle.std.specs.Prelude.{ℕ, suc, true, false, List, [], ◌∷◌, ◌++◌, if◌then◌else◌, ◌==◌}
 use Rattle.texts.specs.Answers.{line_feed}
 use Rattle.texts.specs.Kept.{no_text, pushed}
 use Rattle.lines.specs.Lines.{says_of}

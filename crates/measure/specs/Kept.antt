@@ -1,7 +1,6 @@
 -- What holds of the measure of any trace, from its start on (proofs/Kept.antt), for the record that stands beside it.
 -- Assumes nothing.
-use Rattle.std.specs.Prelude.{◌≡◌, ℕ, ◌+◌, ◌-◌, ◌*◌, ◌≤◌, Bool, true}
-use Rattle.basics.specs.Signs.{if◌then◌else◌}
+use Rattle.std.specs.Prelude.{◌≡◌, ℕ, ◌+◌, ◌-◌, ◌*◌, ◌≤◌, Bool, true, if◌then◌else◌}
 use Rattle.rules.specs.declared.Device.{Device}
 use Rattle.rules.specs.Record.{source_at}
 use Rattle.measure.specs.declared.Wait.{Wait}

@@ -1,7 +1,6 @@
 -- W-201, "How long an interrupt waits": one source.
 -- Assumes nothing.
-use Rattle.std.specs.Prelude.{ℕ, ◌+◌, ◌-◌, ◌%◌, ◌^◌, Bool, true, false, not, ◌&&◌, ◌||◌, nat_lt}
-use Rattle.basics.specs.Signs.{if◌then◌else◌, ◌==◌}
+use Rattle.std.specs.Prelude.{ℕ, ◌+◌, ◌-◌, ◌%◌, ◌^◌, Bool, true, false, not, ◌&&◌, ◌||◌, nat_lt, if◌then◌else◌, ◌==◌}
 use Rattle.measure.specs.declared.Wait.{Wait}
 
 -- a source with none: no wait, "four zeros"

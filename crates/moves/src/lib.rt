@@ -1,8 +1,7 @@
 // The bytes of a port with handshake: taken at a strobe and given at a read; stored at a write and left at an acknowledge.
 #![tactic(auto)]
 
-ghost use Rattle.std.specs.Prelude.{◌≡◌, true, false, ◌<◌, ltb};
-ghost use Rattle.basics.specs.Signs.{if◌then◌else◌, ◌==◌};
+ghost use Rattle.std.specs.Prelude.{◌≡◌, true, false, ◌<◌, ltb, if◌then◌else◌, ◌==◌};
 ghost use Rattle.rules.specs.With.{with_transfer, with_unfinished};
 ghost use Rattle.rules.specs.Record.{transfer_at};
 ghost use Rattle.rules.specs.Registers.{ip_cleared};

@@ -1,7 +1,6 @@
 -- What is said of a file after its name: why an image is refused, with paper 01's number, or why a file cannot be used.
 -- Assumes nothing.
-use Rattle.std.specs.Prelude.{ℕ, Bool, List, ◌++◌, ltb}
-use Rattle.basics.specs.Signs.{if◌then◌else◌, ◌==◌}
+use Rattle.std.specs.Prelude.{ℕ, Bool, List, ◌++◌, ltb, if◌then◌else◌, ◌==◌}
 use Rattle.texts.specs.Answers.{decimal_text}
 use Rattle.texts.specs.Spelled.{spelled}
 

@@ -1,11 +1,11 @@
 -- The highest bit at which a test holds.
 -- Assumes nothing.
+use Rattle.std.specs.Prelude.{if◌then◌else◌}
 use Prim.Native.Nat.{ℕ, ◌<◌}
 use mathlib.Core.Path.{◌≡◌}
 use mathlib.Core.Bool.{Bool, ◌&&◌}
 use lib.Dec.{ltb, lit<, ltb→lt}
 use lib.Bits.{bit_and}
-use Rattle.basics.specs.Signs.{if◌then◌else◌}
 use Rattle.basics.specs.Byte.{bit, byte_of}
 use Rattle.rules.specs.Patterns.{highest_of}
 use Rattle.basics.proofs.Truth.{all7}

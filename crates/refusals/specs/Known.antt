@@ -1,7 +1,6 @@
 -- The code of an event where it is known that the record is sound.
 -- Assumes nothing.
-use Rattle.std.specs.Prelude.{ℕ, ◌&&◌}
-use Rattle.basics.specs.Signs.{if◌then◌else◌, ◌==◌}
+use Rattle.std.specs.Prelude.{ℕ, ◌&&◌, if◌then◌else◌, ◌==◌}
 use Rattle.rules.specs.declared.Device.{Device}
 use Rattle.rules.specs.declared.Event.{Event}
 use Rattle.rules.specs.Registers.{read_only, later}

@@ -1,6 +1,5 @@
 // The code of an event: a test for each refusal, in the paper's order.
-ghost use Rattle.std.specs.Prelude.{◌≡◌, ◌&&◌, cond};
-ghost use Rattle.basics.specs.Signs.{if◌then◌else◌, ◌==◌};
+ghost use Rattle.std.specs.Prelude.{◌≡◌, ◌&&◌, cond, if◌then◌else◌, ◌==◌};
 ghost use Rattle.rules.specs.Registers.{read_only, later};
 ghost use Rattle.rules.specs.Interrupts.{requester};
 ghost use Rattle.rules.specs.Events.{is_w, is_k, unknown, no_register, too_large, held, no_byte, no_room, code_of};

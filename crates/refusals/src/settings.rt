@@ -1,6 +1,5 @@
 // The settings left to later requests: code 4, and "no code 4 setting" of a sound record.
-ghost use Rattle.std.specs.Prelude.{◌≡◌, cond, ◌<◌};
-ghost use Rattle.basics.specs.Signs.{◌==◌};
+ghost use Rattle.std.specs.Prelude.{◌≡◌, cond, ◌<◌, ◌==◌};
 ghost use Rattle.rules.specs.Registers.{port_of, later_port_mode, later_handshake, later_priority, later_config, later_counter_mode, later};
 
 use rules::Device;

@@ -1,5 +1,6 @@
 -- What the two passes come to, the answer and the row: the definitions of `rows`, for any row and any event.
 -- Assumes nothing.
+use Rattle.std.specs.Prelude.{if◌then◌else◌, ◌==◌}
 use mathlib.Core.Path.{◌≡◌, refl, sym, ◌∙◌, ap, subst}
 use Prim.Native.Nat.{ℕ, ◌≤◌}
 use native.Mathlib.Omega.{arith}
@@ -9,7 +10,6 @@ use mathlib.Core.List.{List, [], ◌∷◌, map}
 use lib.Dec.{ltb, eqb}
 use lib.ListN.{length, length-map, get_or}
 use borrow.Author.Tests.{ltb-false, eqb-true}
-use Rattle.basics.specs.Signs.{if◌then◌else◌, ◌==◌}
 use Rattle.rules.specs.declared.Device.{Device}
 use Rattle.rules.specs.declared.Effect.{Effect}
 use Rattle.rules.specs.Record.{fresh_of}

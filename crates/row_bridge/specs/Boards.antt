@@ -1,7 +1,6 @@
 -- A board by value: room for eight devices, of which the first are its row.
 -- Assumes nothing.
-use Rattle.std.specs.Prelude.{ℕ, List, ◌++◌, ltb, take, drop}
-use Rattle.basics.specs.Signs.{if◌then◌else◌}
+use Rattle.std.specs.Prelude.{ℕ, List, ◌++◌, ltb, take, drop, if◌then◌else◌}
 use Rattle.rules.specs.declared.Device.{Device}
 use Rattle.rows.specs.declared.RowEvent.{RowEvent}
 use Rattle.rows.specs.Rows.{row_answer, row_after}

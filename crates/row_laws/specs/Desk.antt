@@ -1,7 +1,6 @@
 -- Paper 02, W-212: the words of the theorems on a row.
 -- Assumes nothing.
-use Rattle.std.specs.Prelude.{ℕ, ◌≤◌, ◌≡◌, Bool, true, false, ◌&&◌, List, [], ◌∷◌, ltb, get_or}
-use Rattle.basics.specs.Signs.{if◌then◌else◌, ◌==◌}
+use Rattle.std.specs.Prelude.{ℕ, ◌≤◌, ◌≡◌, Bool, true, false, ◌&&◌, List, [], ◌∷◌, ltb, get_or, if◌then◌else◌, ◌==◌}
 use Rattle.basics.specs.Runs.{answers_through}
 use Rattle.rules.specs.declared.Device.{Device}
 use Rattle.rules.specs.declared.Effect.{Effect}

@@ -3,8 +3,8 @@
 -- terminal and three lost counts".
 -- Assumes nothing.
 use Prim.Native.Char.{code}
-use Rattle.std.specs.Prelude.{ℕ, ◌-◌, Bool, ◌&&◌, List, [], ◌∷◌, ◌++◌, ltb, drop, get_or, length}
-use Rattle.basics.specs.Signs.{if◌then◌else◌, ◌==◌, within}
+use Rattle.std.specs.Prelude.{ℕ, ◌-◌, Bool, ◌&&◌, List, [], ◌∷◌, ◌++◌, ltb, drop, get_or, length, if◌then◌else◌, ◌==◌}
+use Rattle.basics.specs.Signs.{within}
 use Rattle.rules.specs.declared.Answer.{Answer}
 use Rattle.rules.specs.declared.Event.{Event}
 use Rattle.rows.specs.declared.RowAnswer.{RowAnswer}

@@ -1,9 +1,8 @@
 -- How an event goes along a row, in two passes of one device after the other: the first looks, the second acts. That this comes to
 -- the definitions of `rows` is proved in `row`.
 -- Assumes nothing.
-use Rattle.std.specs.Prelude.{ℕ, zero, suc, Bool, true, false, not, ◌&&◌, ◌||◌, List, ltb, set}
+use Rattle.std.specs.Prelude.{ℕ, zero, suc, Bool, true, false, not, ◌&&◌, ◌||◌, List, ltb, set, if◌then◌else◌, ◌==◌}
 use Rattle.std.specs.Bool.{beq}
-use Rattle.basics.specs.Signs.{if◌then◌else◌, ◌==◌}
 use Rattle.rules.specs.declared.Device.{Device}
 use Rattle.rules.specs.declared.Effect.{Effect}
 use Rattle.rules.specs.Events.{is_t, is_k, code_of, effect}

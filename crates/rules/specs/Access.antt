@@ -1,13 +1,13 @@
 -- Paper 01, "Registers": what each kind of register reads, what a read does, and the direct effect (a) of a write.
 -- Assumes nothing.
-use Rattle.std.specs.Prelude.{ℕ, ◌-◌, ◌/◌, Bool, not, ◌&&◌, ◌||◌, [], ◌∷◌}
+use Rattle.std.specs.Prelude.{ℕ, ◌-◌, ◌/◌, Bool, not, ◌&&◌, ◌||◌, [], ◌∷◌, if◌then◌else◌, ◌==◌}
 use Rattle.rules.specs.declared.Device.{Device}
 use Rattle.rules.specs.declared.Pattern.{Pattern}
 use Rattle.rules.specs.declared.Transfer.{Transfer}
 use Rattle.rules.specs.declared.Kind.{Kind}
 use Rattle.rules.specs.declared.Kind.TheVariants.{Master, Config, Vector, Polarity, Direction, Special, PortCommand, CounterCommand, Data}
 use Rattle.rules.specs.declared.Kind.TheVariants.{Current, Constant, CounterMode, CurrentVector, PortMode, Handshake, PatternPolarity, Transition, Mask, Absent}
-use Rattle.basics.specs.Signs.{if◌then◌else◌, ◌==◌, within}
+use Rattle.basics.specs.Signs.{within}
 use Rattle.basics.specs.Byte.{bit, byte_in, with_byte}
 use Rattle.rules.specs.With.{with_master, with_config, with_vector, with_port, with_pattern, with_pair, with_transfer, with_transfers, with_counter, with_counters, with_source, with_polarity}
 use Rattle.rules.specs.With.{with_direction, with_special, with_constant, with_mode, with_port_mode, with_handshake, with_pattern_polarity, with_transition, with_mask, with_ioe}

@@ -1,7 +1,6 @@
 -- Paper 01, "Counters": one rule for the three.
 -- Assumes nothing.
-use Rattle.std.specs.Prelude.{ℕ, ◌+◌, ◌-◌, ◌%◌, Bool, true, false, not, ◌&&◌, ◌||◌}
-use Rattle.basics.specs.Signs.{if◌then◌else◌, ◌==◌}
+use Rattle.std.specs.Prelude.{ℕ, ◌+◌, ◌-◌, ◌%◌, Bool, true, false, not, ◌&&◌, ◌||◌, if◌then◌else◌, ◌==◌}
 use Rattle.basics.specs.Byte.{bit, rises}
 use Rattle.rules.specs.With.{with_count, with_frozen, with_rcc, with_gcb, with_cip, with_half, with_pulse}
 use Rattle.rules.specs.declared.Counter.{Counter}

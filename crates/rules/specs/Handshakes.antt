@@ -1,7 +1,6 @@
 -- Paper 02, W-203 and W-206: a port with handshake, its settings, and its lines on Port C. Ports A and B are one rule over their place.
 -- Assumes nothing.
-use Rattle.std.specs.Prelude.{ℕ, ◌-◌, ◌*◌, ◌/◌, Bool, not, ◌&&◌, ◌||◌, ltb}
-use Rattle.basics.specs.Signs.{if◌then◌else◌, ◌==◌}
+use Rattle.std.specs.Prelude.{ℕ, ◌-◌, ◌*◌, ◌/◌, Bool, not, ◌&&◌, ◌||◌, ltb, if◌then◌else◌, ◌==◌}
 use Rattle.basics.specs.Byte.{bit, differs}
 use Rattle.rules.specs.declared.Device.{Device}
 use Rattle.rules.specs.declared.Pattern.{Pattern}

@@ -1,12 +1,11 @@
 -- Paper 01, "Interrupts". Sources are known by their place in the order: 0 CT3, 1 A, 2 CT2, 3 B, 4 CT1.
 -- Assumes nothing.
-use Rattle.std.specs.Prelude.{ℕ, zero, suc, ◌+◌, ◌*◌, ◌/◌, ◌%◌, Bool, true, false, not, ◌&&◌, ◌||◌}
+use Rattle.std.specs.Prelude.{ℕ, zero, suc, ◌+◌, ◌*◌, ◌/◌, ◌%◌, Bool, true, false, not, ◌&&◌, ◌||◌, if◌then◌else◌, ◌==◌}
 use Rattle.rules.specs.declared.Lines.{Lines}
 use Rattle.rules.specs.declared.Device.{Device}
 use Rattle.rules.specs.declared.Source.{Source}
 use Rattle.rules.specs.declared.Fate.{Fate}
 use Rattle.rules.specs.declared.Fate.TheVariants.{Nothing, Taken, Kept, Lost}
-use Rattle.basics.specs.Signs.{if◌then◌else◌, ◌==◌}
 use Rattle.basics.specs.Byte.{num}
 use Rattle.rules.specs.With.{with_ius, with_ip, with_hidden, with_source, with_lines}
 use Rattle.rules.specs.Record.{vector_at, pattern_at, source_at, of_port}

@@ -1,7 +1,6 @@
 -- Paper 02, W-203 and W-206: bytes move "in the R, W or P that lets them, never in T". Moves in a W or P belong to (a) of its step.
 -- Assumes nothing.
-use Rattle.std.specs.Prelude.{ℕ, Bool, true, false, not, ◌&&◌, ◌||◌, ltb}
-use Rattle.basics.specs.Signs.{if◌then◌else◌, ◌==◌}
+use Rattle.std.specs.Prelude.{ℕ, Bool, true, false, not, ◌&&◌, ◌||◌, ltb, if◌then◌else◌, ◌==◌}
 use Rattle.basics.specs.Byte.{rises}
 use Rattle.rules.specs.declared.Device.{Device}
 use Rattle.rules.specs.declared.Source.{Source}

@@ -1,8 +1,7 @@
 -- Paper 01, "Patterns".
 -- Assumes nothing.
-use Rattle.std.specs.Prelude.{ℕ, ◌/◌, ◌%◌, Bool, false, not, ◌&&◌, ◌||◌}
+use Rattle.std.specs.Prelude.{ℕ, ◌/◌, ◌%◌, Bool, false, not, ◌&&◌, ◌||◌, if◌then◌else◌, ◌==◌}
 use Rattle.rules.specs.declared.Pattern.{Pattern}
-use Rattle.basics.specs.Signs.{if◌then◌else◌, ◌==◌}
 use Rattle.basics.specs.Byte.{bit, differs, rises, every, any}
 
 -- "Mask 0, transition 0: bit off"

@@ -1,8 +1,8 @@
 -- Paper 01, "Registers": what kind each address is, the bits of registers 00 and 01, what a write refuses (the table of codes), and
 -- the command registers. (What "Clearing IP" does stands here too, with the commands: paper 01, "Interrupts".)
 -- Assumes nothing.
-use Rattle.std.specs.Prelude.{ℕ, ◌+◌, ◌-◌, ◌/◌, ◌%◌, Bool, true, false, not, ◌&&◌, ◌||◌, ltb}
-use Rattle.basics.specs.Signs.{if◌then◌else◌, ◌==◌, within}
+use Rattle.std.specs.Prelude.{ℕ, ◌+◌, ◌-◌, ◌/◌, ◌%◌, Bool, true, false, not, ◌&&◌, ◌||◌, ltb, if◌then◌else◌, ◌==◌}
+use Rattle.basics.specs.Signs.{within}
 use Rattle.basics.specs.Byte.{bit}
 use Rattle.rules.specs.declared.Device.{Device}
 use Rattle.rules.specs.declared.Source.{Source}

@@ -1,6 +1,6 @@
 -- Paper 01, "Sound means": a named clause for each rule.
 -- Assumes nothing.
-use Rattle.std.specs.Prelude.{ℕ, Bool, not, ◌&&◌, ◌||◌, ltb, leb}
+use Rattle.std.specs.Prelude.{ℕ, Bool, not, ◌&&◌, ◌||◌, ltb, leb, ◌==◌}
 use Rattle.std.specs.Bool.{beq}
 use Rattle.rules.specs.declared.Device.{Device}
 use Rattle.rules.specs.declared.Source.{Source}
@@ -9,7 +9,6 @@ use Rattle.rules.specs.declared.Port.{Port}
 use Rattle.rules.specs.declared.Pattern.{Pattern}
 use Rattle.rules.specs.declared.Transfer.{Transfer}
 use Rattle.rules.specs.declared.Lines.{Lines}
-use Rattle.basics.specs.Signs.{◌==◌}
 use Rattle.basics.specs.Byte.{bit, every, any}
 use Rattle.rules.specs.With.{with_lines}
 use Rattle.rules.specs.Record.{vector_at, port_at, pattern_at, transfer_at, counter_at, source_at, vacant, of_port, reset_of}

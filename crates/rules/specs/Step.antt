@@ -1,6 +1,6 @@
 -- Paper 01, "Order inside one step", and the clock.
 -- Assumes nothing.
-use Rattle.std.specs.Prelude.{ℕ, ◌/◌, ◌%◌, Bool, true, false, [], ◌∷◌}
+use Rattle.std.specs.Prelude.{ℕ, ◌/◌, ◌%◌, Bool, true, false, [], ◌∷◌, if◌then◌else◌, ◌==◌}
 use Rattle.rules.specs.declared.Device.{Device}
 use Rattle.rules.specs.declared.Port.{Port}
 use Rattle.rules.specs.declared.Link.{Link}
@@ -8,7 +8,6 @@ use Rattle.rules.specs.declared.Counted.{Counted}
 use Rattle.rules.specs.declared.Turned.{Turned}
 use Rattle.rules.specs.declared.Stepped.{Stepped}
 use Rattle.rules.specs.declared.Ran.{Ran}
-use Rattle.basics.specs.Signs.{if◌then◌else◌, ◌==◌}
 unfoldable pub use Rattle.basics.specs.Iterate.{iterate}
 use Rattle.rules.specs.declared.Report.{Report}
 use Rattle.rules.specs.With.{with_catcher, with_pmf, with_ports, with_pattern, with_counter, with_phase}

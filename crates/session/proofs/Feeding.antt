@@ -1,5 +1,6 @@
 -- Lines taken from a piece one after the other, their answers laid one after the other.
 -- Assumes nothing.
+use Rattle.std.specs.Prelude.{◌==◌}
 use Prim.Native.Nat.{ℕ, suc, ◌+◌, ◌-◌, ◌≤◌, ◌<◌}
 use mathlib.Core.Bool.{Bool, true, false, ◌&&◌, true≢false}
 use mathlib.Core.List.{List, [], ◌∷◌, ◌++◌}
@@ -10,7 +11,6 @@ use borrow.Author.Tests.{lt-ltb, le-ltb, le-leb, ltb-false, leb-false}
 use lib.Dec.{ltb, leb}
 use lib.ListN.{length, take, drop, length-append, length-drop}
 use lib.Seq.{paste, take_at, take-length, take-add, drop-drop, drop-append-add, length-take-le}
-use Rattle.basics.specs.Signs.{◌==◌}
 use Rattle.texts.specs.Answers.{line_feed}
 use Rattle.basics.specs.Buffer.{fits, laid_of}
 use Rattle.lines.specs.Pieces.{line_len, said_in, kept_after}

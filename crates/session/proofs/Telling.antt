@@ -1,5 +1,6 @@
 -- One line said to a session's device.
 -- Assumes nothing.
+use Rattle.std.specs.Prelude.{if◌then◌else◌, ◌==◌}
 use Prim.Native.Nat.{ℕ, suc, ◌+◌, ◌≤◌, ◌<◌}
 use mathlib.Core.Bool.{Bool, true, false, cond}
 use mathlib.Core.List.{List, [], ◌∷◌, append-nil}
@@ -13,7 +14,6 @@ use lib.Seq.{paste, paste-zero, length-take-le}
 use Rattle.lines.proofs.Cutting.{Cuts, cuts}
 use Rattle.texts.proofs.Printed.{answer-short}
 use Rattle.texts.specs.Answers.{answer_text}
-use Rattle.basics.specs.Signs.{if◌then◌else◌, ◌==◌}
 use Rattle.texts.specs.Answers.{line_feed}
 use Rattle.basics.specs.Buffer.{fits, laid_of}
 use Rattle.texts.specs.Kept.{text_room}

@@ -1,9 +1,8 @@
 -- The session of the trace programs. Paper 01, "The trace program": "From the fresh device, reads standard input: .. Each line
 -- prints ..". Paper 02, W-209: the Z8536 has one too.
 -- Assumes nothing.
-use Rattle.std.specs.Prelude.{ℕ, suc, ◌+◌, List, [], ◌∷◌, ◌++◌, map, ltb, length, take, drop}
+use Rattle.std.specs.Prelude.{ℕ, suc, ◌+◌, List, [], ◌∷◌, ◌++◌, map, ltb, length, take, drop, if◌then◌else◌}
 use Rattle.basics.specs.Buffer.{fits}
-use Rattle.basics.specs.Signs.{if◌then◌else◌}
 use Rattle.chip.specs.declared.Chip.{Chip}
 use Rattle.chip.specs.declared.OutcomeChip.{OutcomeChip}
 use Rattle.chip.specs.Chips.{event_chip}

@@ -1,12 +1,12 @@
 -- A step that is no timer clock, and in which nothing moves, leaves the record as (a) left it.
 -- Assumes nothing.
+use Rattle.std.specs.Prelude.{◌==◌}
 use Prim.Native.Nat.{ℕ}
 use mathlib.Core.Path.{◌≡◌, refl, sym, ap, ◌∙◌}
 use mathlib.Core.Bool.{Bool, true, false, not, ◌&&◌, beq, cond, and-false}
 use lib.ListN.{length}
 use lib.Seq.{set-get_or}
 use borrow.Author.Tests.{eqb-true}
-use Rattle.basics.specs.Signs.{◌==◌}
 use Rattle.basics.specs.Byte.{bit, rises}
 use Rattle.basics.proofs.Tests.{both, triple}
 use Rattle.rules.specs.declared.Device.{Device}

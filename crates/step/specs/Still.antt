@@ -1,8 +1,7 @@
 -- Whether nothing moves in a step that is no timer clock: then it leaves the record as (a) left it.
 -- Assumes nothing.
-use Rattle.std.specs.Prelude.{ℕ, Bool, false, not, ◌&&◌}
+use Rattle.std.specs.Prelude.{ℕ, Bool, false, not, ◌&&◌, ◌==◌}
 use Rattle.std.specs.Bool.{beq}
-use Rattle.basics.specs.Signs.{◌==◌}
 use Rattle.rules.specs.declared.Device.{Device}
 use Rattle.rules.specs.declared.Pattern.{Pattern}
 use Rattle.rules.specs.declared.Link.{Link}

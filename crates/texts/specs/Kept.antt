@@ -1,7 +1,6 @@
 -- The bytes of a line as they are kept, a line that is read as well as one that is written.
 -- Assumes nothing.
-use Rattle.std.specs.Prelude.{ℕ, ◌+◌, List, [], ◌∷◌, ltb, take, set, replicate}
-use Rattle.basics.specs.Signs.{if◌then◌else◌}
+use Rattle.std.specs.Prelude.{ℕ, ◌+◌, List, [], ◌∷◌, ltb, take, set, replicate, if◌then◌else◌}
 use Rattle.texts.specs.declared.Text.{Text}
 
 -- the room of a text: any answer fits, and so does any line that paper 01 lets a trace have

@@ -1,5 +1,6 @@
 -- Codes 4 and 10 by kind: what `later` and a data write with no room, which go by address, say of each kind of register.
 -- Assumes nothing.
+use Rattle.std.specs.Prelude.{◌==◌}
 use Prim.Native.Nat.{ℕ, zero, suc, ◌-◌, ◌<◌}
 use mathlib.Core.Path.{◌≡◌, refl, sym, ap, ap₂, ◌∙◌}
 use mathlib.Core.Bool.{Bool, true, false, not, ◌&&◌, ◌||◌, beq, So, cond, and_assoc, and-false}
@@ -10,7 +11,7 @@ use Rattle.rules.specs.declared.Device.{Device}
 use Rattle.rules.specs.declared.Kind.{Kind}
 use Rattle.rules.specs.declared.Kind.TheVariants.{Master, Config, Vector, Polarity, Direction, Special, PortCommand, CounterCommand}
 use Rattle.rules.specs.declared.Kind.TheVariants.{Data, Current, Constant, CounterMode, CurrentVector, PortMode, Handshake, PatternPolarity, Transition, Mask, Absent}
-use Rattle.basics.specs.Signs.{◌==◌, within}
+use Rattle.basics.specs.Signs.{within}
 use Rattle.rules.specs.With.{with_port_mode}
 use Rattle.rules.specs.Record.{pattern_at}
 use Rattle.rules.specs.Registers.{port_kind, kind_in, kind_of, port_of, later, later_handshake, later_priority, later_config, later_counter_mode}

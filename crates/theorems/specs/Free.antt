@@ -1,10 +1,9 @@
 -- Paper 01, "Counters", its last paragraph: a free-running counter over T n, by division; and paper 02, W-202: its lost terminals,
 -- W-205: its pulse.
 -- Assumes nothing.
-use Rattle.std.specs.Prelude.{ℕ, ◌+◌, ◌-◌, ◌/◌, ◌%◌, ◌≡◌, Bool, true, false, not, ◌&&◌, ◌||◌, cond, eqb, ltb, leb}
+use Rattle.std.specs.Prelude.{ℕ, ◌+◌, ◌-◌, ◌/◌, ◌%◌, ◌≡◌, Bool, true, false, not, ◌&&◌, ◌||◌, cond, eqb, ltb, leb, if◌then◌else◌, ◌==◌}
 use Rattle.rules.specs.declared.Device.{Device}
 use Rattle.rules.specs.declared.Source.{Source}
-use Rattle.basics.specs.Signs.{if◌then◌else◌, ◌==◌}
 use Rattle.basics.specs.Byte.{bit, num}
 use Rattle.rules.specs.Record.{counter_at}
 use Rattle.rules.specs.Registers.{counter_enabled, lc}

@@ -2,8 +2,7 @@
 -- timer clock, and "a counter's output reaches another counter only by the link": so each counter with its source is a part of its own,
 -- and each port's PMF with its source is a side of its own.
 -- Assumes nothing.
-use Rattle.std.specs.Prelude.{ℕ, ◌+◌, ◌%◌, ◌<◌, ◌≡◌, Bool, true, not, ◌&&◌, ◌||◌, [], ◌∷◌}
-use Rattle.basics.specs.Signs.{if◌then◌else◌, ◌==◌}
+use Rattle.std.specs.Prelude.{ℕ, ◌+◌, ◌%◌, ◌<◌, ◌≡◌, Bool, true, not, ◌&&◌, ◌||◌, [], ◌∷◌, if◌then◌else◌, ◌==◌}
 use Rattle.basics.specs.Byte.{num}
 use Rattle.rules.specs.declared.Device.{Device}
 use Rattle.rules.specs.declared.Counter.{Counter}

@@ -1,8 +1,7 @@
 -- Paper 02, W-210: "Where both ports are bit ports, no counter is linked, all outputs to pins are off, and neither port has an edge
 -- pattern".
 -- Assumes nothing.
-use Rattle.std.specs.Prelude.{Bool, not, ◌&&◌, ◌||◌}
-use Rattle.basics.specs.Signs.{◌==◌}
+use Rattle.std.specs.Prelude.{Bool, not, ◌&&◌, ◌||◌, ◌==◌}
 use Rattle.rules.specs.declared.Device.{Device}
 use Rattle.rules.specs.Record.{pattern_at, counter_at}
 use Rattle.rules.specs.Registers.{lc}

@@ -1,7 +1,6 @@
 -- Paper 01, "Events and their answers": "numbers a kind doesn't use are ignored": which numbers each kind uses.
 -- Assumes nothing.
-use Rattle.std.specs.Prelude.{ℕ, ◌||◌}
-use Rattle.basics.specs.Signs.{if◌then◌else◌}
+use Rattle.std.specs.Prelude.{ℕ, ◌||◌, if◌then◌else◌}
 use Rattle.rules.specs.declared.Event.{Event}
 use Rattle.rules.specs.Events.{is_x, is_w, is_p, is_k, unknown}
 

@@ -1,11 +1,11 @@
 -- What is typed after what is typed, and a name with its bit.
 -- Assumes nothing.
+use Rattle.std.specs.Prelude.{if◌then◌else◌}
 use Prim.Native.Char.{code}
 use Prim.Native.Nat.{ℕ}
 use mathlib.Core.Bool.{Bool}
 use mathlib.Core.List.{List, [], ◌∷◌, ◌++◌}
 use mathlib.Core.Path.{◌≡◌, sym, ap, ◌∙◌}
-use Rattle.basics.specs.Signs.{if◌then◌else◌}
 use Rattle.texts.specs.Answers.{line_feed}
 use Rattle.texts.specs.Kept.{pushed, no_text, typed}
 use Rattle.texts.specs.declared.Text.{Text}

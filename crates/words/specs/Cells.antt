@@ -1,7 +1,6 @@
 -- What stands in a column: twelve bytes, to the right.
 -- Assumes nothing.
-use Rattle.std.specs.Prelude.{ℕ, ◌/◌, ◌%◌, Bool, List, [], ◌∷◌, ◌++◌, ltb}
-use Rattle.basics.specs.Signs.{if◌then◌else◌}
+use Rattle.std.specs.Prelude.{ℕ, ◌/◌, ◌%◌, Bool, List, [], ◌∷◌, ◌++◌, ltb, if◌then◌else◌}
 use Rattle.texts.specs.Answers.{space, decimal_digit, glyph_of}
 use Rattle.texts.specs.Spelled.{spelled}
 

@@ -1,13 +1,12 @@
 -- The device in words: one fact a line, a column for each port, counter or source.
 -- Assumes nothing.
 use Prim.Native.Char.{code}
-use Rattle.std.specs.Prelude.{ℕ, ◌+◌, ◌-◌, ◌/◌, ◌%◌, Bool, false, ◌&&◌, List, [], ◌∷◌, ◌++◌, ltb, length, get_or}
+use Rattle.std.specs.Prelude.{ℕ, ◌+◌, ◌-◌, ◌/◌, ◌%◌, Bool, false, ◌&&◌, List, [], ◌∷◌, ◌++◌, ltb, length, get_or, if◌then◌else◌, ◌==◌}
 use Rattle.rules.specs.declared.Counter.{Counter}
 use Rattle.rules.specs.declared.Source.{Source}
 use Rattle.rules.specs.declared.Transfer.{Transfer}
 use Rattle.rules.specs.declared.Device.{Device}
 use Rattle.basics.specs.Byte.{bit}
-use Rattle.basics.specs.Signs.{if◌then◌else◌, ◌==◌}
 use Rattle.rules.specs.Record.{port_at, pattern_at, transfer_at, counter_at, source_at}
 use Rattle.rules.specs.Registers.{port_enabled, counter_enabled, lc}
 use Rattle.rules.specs.Counters.{continuous, output_enabled, count_input, trigger_input, gate_input, retrigger, output_of}

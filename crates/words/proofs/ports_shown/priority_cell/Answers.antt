@@ -1,9 +1,9 @@
 -- the words, and the digit
+use Rattle.std.specs.Prelude.{if◌then◌else◌}
 use Prim.Native.Nat.{ℕ, ◌+◌}
 use mathlib.Core.Bool.{Bool}
 use mathlib.Core.List.{[], ◌∷◌}
 use mathlib.Core.Path.{◌≡◌, sym, ap, ◌∙◌}
-use Rattle.basics.specs.Signs.{if◌then◌else◌}
 use Rattle.texts.specs.Kept.{pushed, typed}
 use Rattle.texts.specs.Spelled.{spelled}
 use Rattle.texts.specs.declared.Text.{Text}
