@@ -57,6 +57,7 @@ pub struct OutcomeChip {
 }
 
 // Any record and any event, to an answer beside the record.
+#[tactic(auto, unfolding(crate::specs::Chips::event_chip))]
 pub fn event(c: Chip, e: Event) -> OutcomeChip
     ensures { result ≡ event_chip c e }
 {

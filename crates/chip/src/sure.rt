@@ -6,6 +6,7 @@ use crate::{Chip, OutcomeChip};
 use rules::Event;
 
 // Whether a record is sound.
+#[tactic(auto, unfolding(crate::specs::Chips::sound_chip))]
 pub fn sound(c: Chip) -> bool
     ensures { result ≡ sound_chip c }
 {
@@ -16,6 +17,7 @@ pub fn sound(c: Chip) -> bool
 }
 
 // The event call; where `sure` says that the record is known to be sound, a Z8036 does not ask again.
+#[tactic(auto, unfolding(crate::specs::Chips::known_chip))]
 pub fn known(sure: bool, c: Chip, e: Event) -> OutcomeChip
     ensures { result ≡ known_chip sure c e }
 {
