@@ -16,6 +16,7 @@ pub struct RestoredChip {
 }
 
 // How long the image of a device is.
+#[tactic(auto, unfolding(crate::specs::ChipImage::length_chip))]
 pub fn image_len(c: Chip) -> usize
     ensures { result ≡ length_chip c }
 {
@@ -28,6 +29,7 @@ pub fn image_len(c: Chip) -> usize
 
 // Saves a device into the first bytes of a buffer, as many as its image has. Codes: 9, then 7, else 0. A refused save leaves the
 // buffer as it was.
+#[tactic(auto, unfolding(crate::specs::ChipImage::save_code_chip, crate::specs::ChipImage::saved_chip))]
 pub fn save(c: Chip, buf: &mut [u8]) -> u8
     ensures { (result ≡ save_code_chip c (length buf.old)) × (buf.new ≡ saved_chip c buf.old) }
 {
@@ -38,6 +40,7 @@ pub fn save(c: Chip, buf: &mut [u8]) -> u8
 }
 
 // Restores the device of an image; its first byte tells which. A refused restore gives the fresh one.
+#[tactic(auto, unfolding(crate::specs::ChipImage::restored_chip))]
 pub fn restore(s: &[u8]) -> RestoredChip
     ensures { result ≡ restored_chip s.now }
 {
