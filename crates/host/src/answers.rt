@@ -21,6 +21,7 @@ struct Four {
     low: u8,
 }
 
+#[tactic(auto, unfolding(crate::specs::Bytes::count_bytes))]
 fn count(n: u32) -> Four
     ensures { count_bytes n ≡ result.top ∷ result.upper ∷ result.lower ∷ result.low ∷ [] }
 {
@@ -32,6 +33,7 @@ fn count(n: u32) -> Four
     }
 }
 
+#[tactic(auto, unfolding(crate::specs::Bytes::reply_bytes))]
 pub(crate) fn answer(a: Answer) -> [u8; ANSWER]
     ensures { result ≡ reply_bytes a }
 {
@@ -79,6 +81,7 @@ pub(crate) fn answer(a: Answer) -> [u8; ANSWER]
     ]
 }
 
+#[tactic(auto, unfolding(crate::specs::Bytes::ctc_bytes))]
 pub(crate) fn ctc(a: CtcAnswer) -> [u8; CTC]
     ensures { result ≡ ctc_bytes a }
 {
@@ -112,6 +115,7 @@ pub(crate) fn ctc(a: CtcAnswer) -> [u8; CTC]
     ]
 }
 
+#[tactic(auto, unfolding(crate::specs::Bytes::line_bytes))]
 pub(crate) fn lines(l: Lines) -> [u8; LINES]
     ensures { result ≡ line_bytes l }
 {

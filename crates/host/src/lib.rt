@@ -20,6 +20,7 @@ use rules::{Device, Event};
 use z8536::Z8536;
 
 // What refuses a call: the code of the state's restore, then 7 for an answer buffer that is too short.
+#[tactic(auto, unfolding(crate::specs::Calls::refusal_of))]
 fn refusal(restored: u8, room: usize, needed: usize) -> u8
     ensures { result ≡ refusal_of restored room needed }
 {
@@ -34,6 +35,7 @@ fn refusal(restored: u8, room: usize, needed: usize) -> u8
 
 // A length by its number.
 #[unsafe(no_mangle)]
+#[tactic(auto, unfolding(crate::specs::Calls::length_at))]
 pub extern "C" fn wolfscarer_length(what: u32) -> usize
     ensures { result ≡ length_at what }
 {

@@ -1,0 +1,14 @@
+use mathlib.Core.Path.{refl}
+use Rattle.host.proofs.Wholes.{lines-stays, lines-goes}
+use Rattle.host.proofs.wolfscarer_z8036_lines.Goals as goal
+
+pub returns-then-code-ne0 : goal.returns-then-code-ne0
+returns-then-code-ne0 c =
+    let a = c.args in
+    lines-stays a.state.now a.answer.now _ _ c.restore-s.ensures c.refusal-code.ensures c.if-code-ne0.true
+
+pub returns : goal.returns
+returns c =
+    let a = c.args in
+    lines-goes a.state.now a.answer.now _ _ _ _ a.state.now _
+    c.restore-s.ensures c.refusal-code.ensures c.if-code-ne0.false refl c.lines-bytes.ensures refl c.lay.ensures.0
