@@ -1,28 +1,27 @@
 -- The pass that acts, or that only shows the row: what it does to the devices and puts into the answer, device by device.
 -- Assumes nothing.
 use Rattle.std.specs.Prelude.{if◌then◌else◌, ◌==◌}
-use mathlib.Core.Path.{◌≡◌, refl, sym, ◌∙◌, ap, subst}
-use Prim.Native.Nat.{ℕ, zero, suc, ◌+◌, ◌≤◌, ◌<◌}
+use mathlib.Core.Path.{◌≡◌, refl, sym, ◌∙◌, ap}
+use Prim.Native.Nat.{ℕ, suc, ◌+◌, ◌≤◌, ◌<◌}
 use native.Mathlib.Omega.{arith}
 use mathlib.Core.Bool.{Bool, true, false, not, ◌&&◌, ◌||◌}
-use mathlib.Core.Logic.{◌⊎◌, inl, inr}
+use mathlib.Core.Logic.{inl, inr}
 use mathlib.Core.List.{List, [], ◌∷◌, map}
-use lib.Dec.{ltb, eqb}
+use lib.Dec.{ltb}
 use lib.ListN.{length, get_or, set}
 use borrow.Author.Tests.{lt-ltb, eq-eqb, ne_eqb}
 use Rattle.rules.specs.declared.Device.{Device}
-use Rattle.rules.specs.declared.Event.{Event}
 use Rattle.rules.specs.declared.Effect.{Effect}
 use Rattle.rules.specs.Record.{fresh_of}
 use Rattle.rules.specs.Events.{is_t, is_k, effect}
 use Rattle.rows.specs.declared.RowEvent.{RowEvent}
 use Rattle.rows.specs.declared.RowAnswer.{RowAnswer}
 use Rattle.rows.specs.declared.Shown.{Shown}
-use Rattle.rows.specs.Rows.{part_of, along_row, shown_of, eight_of, dark}
+use Rattle.rows.specs.Rows.{part_of, along_row, shown_of, eight_of}
 use Rattle.row_visit.specs.declared.Pass.{Pass}
 use Rattle.row_visit.specs.Visits.{here_of, one_fewer, next_place, onward, does_of, parted_of, shows_at, filled_of, acted_of, visit_of}
 use Rattle.row.specs.Passes.{pass_along, row_along}
-use Rattle.row.proofs.Looks.{either, next-below, goal, hits, Step, step}
+use Rattle.row.proofs.Looks.{next-below, goal, Step, step}
 
 -- the second pass, at some place
 abbrev pub act_at : RowEvent → Bool → Bool → ℕ → Bool → ℕ → Bool → Bool → RowAnswer → Pass

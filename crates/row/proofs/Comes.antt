@@ -1,28 +1,28 @@
 -- What the two passes come to, the answer and the row: the definitions of `rows`, for any row and any event.
 -- Assumes nothing.
 use Rattle.std.specs.Prelude.{if◌then◌else◌, ◌==◌}
-use mathlib.Core.Path.{◌≡◌, refl, sym, ◌∙◌, ap, subst}
+use mathlib.Core.Path.{◌≡◌, refl, sym, ◌∙◌, ap}
 use Prim.Native.Nat.{ℕ, ◌≤◌}
 use native.Mathlib.Omega.{arith}
 use mathlib.Core.Bool.{Bool, true, false, not, ◌&&◌, ◌||◌, false≢true}
 use mathlib.Core.Logic.{◌⊎◌, inl, inr}
-use mathlib.Core.List.{List, [], ◌∷◌, map}
-use lib.Dec.{ltb, eqb}
+use mathlib.Core.List.{List, [], map}
+use lib.Dec.{ltb}
 use lib.ListN.{length, length-map, get_or}
 use borrow.Author.Tests.{ltb-false, eqb-true}
 use Rattle.rules.specs.declared.Device.{Device}
 use Rattle.rules.specs.declared.Effect.{Effect}
 use Rattle.rules.specs.Record.{fresh_of}
-use Rattle.rules.specs.Events.{is_t, is_k, code_of, effect}
+use Rattle.rules.specs.Events.{is_k, code_of, effect}
 use Rattle.rows.specs.declared.RowEvent.{RowEvent}
 use Rattle.rows.specs.declared.RowAnswer.{RowAnswer}
 use Rattle.rows.specs.declared.Shown.{Shown}
-use Rattle.rows.specs.Rows.{row_sound, misfits, past_end, row_code, reaches, reached, along_row, row_effects, shown_of, eight_of, value_in, dark_answer, row_answer, row_after}
+use Rattle.rows.specs.Rows.{row_sound, misfits, past_end, row_code, reaches, reached, row_effects, shown_of, eight_of, value_in, dark_answer, row_answer, row_after}
 use Rattle.row_visit.specs.declared.Pass.{Pass}
 use Rattle.row_visit.specs.Visits.{to_of, pass_begun, looking_of, verdict_of, acting_of}
 use Rattle.row.specs.Passes.{pass_along, row_along}
 use Rattle.row.proofs.Looks.{either, goal, reached-goal, verdict-is, look-event-is, look-over-is, look-row-is}
-use Rattle.row.proofs.Acts.{act_at, rest-row, rest-answer, show-answer, placed, effects_from, act-row, acted-answer, along-is, eight_is, effects-length}
+use Rattle.row.proofs.Acts.{act_at, rest-row, rest-answer, show-answer, effects_from, act-row, acted-answer, along-is, eight_is, effects-length}
 
 -- ---- between the passes
 -- the pass that acts, by the code

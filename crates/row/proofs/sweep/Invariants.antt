@@ -6,7 +6,7 @@ use Rattle.row.proofs.sweep.Given as goal
 
 abbrev pub invariant-loop-i : goal.invariant-loop-i
 invariant-loop-i l =
-    (later-pass l.i l.row l.t ≡ pass_along l.initial.row l.s) × (later-row l.i l.row l.t ≡ row_along l.initial.row l.s)
+    (later-pass l.i l.row l.t ≡ pass_along l.initial.row l.fn.s) × (later-row l.i l.row l.t ≡ row_along l.initial.row l.fn.s)
 
 abbrev pub decreases-loop-i : goal.decreases-loop-i
 decreases-loop-i l = length l.row - l.i
