@@ -15,6 +15,7 @@ pub struct Boarded {
 }
 
 // How many devices a board has: a count above eight says eight.
+#[tactic(auto, unfolding(crate::specs::Boards::few_of))]
 fn few(count: usize) -> usize
     ensures { (result ≡ few_of count) × (result ≤ 8) }
 {
