@@ -1,6 +1,6 @@
 -- W-201, "T n is measured as n times T 1": a T is measured as T's of as many clocks, one after the other, however it is cut.
 -- Assumes nothing.
-use Rattle.std.proofs.Common.{◌≡◌, ℕ, zero, suc, ◌+◌, ◌≤◌, Bool, true, false, not, List, [], ◌∷◌, replicate, sym, refl, ap, ◌∙◌, ap₂, arith, le-ltb}
+use Rattle.std.proofs.Common.{◌≡◌, ℕ, zero, suc, ◌+◌, ◌≤◌, Bool, true, false, List, [], ◌∷◌, replicate, sym, refl, ap, ◌∙◌, ap₂, arith, le-ltb}
 use mathlib.Core.Bool.{So}
 use Rattle.basics.specs.Runs.{record_through}
 use Rattle.basics.proofs.Tests.{left, right, so-not}

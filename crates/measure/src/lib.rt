@@ -116,6 +116,7 @@ fn too_long(m: Measure, d: Device, e: Event) -> Measured
 }
 
 // The measure after an accepted event, which leaves the record f.
+#[tactic(auto, unfolding(crate::specs::Measure::measure_of))]
 fn accepted(m: Measure, d: Device, e: Event, f: Device) -> Measure
     requires { (code_of d e ≡ 0) × (past m e ≡ false) × (f ≡ (event_of d e).device) }
     ensures { result ≡ measure_of m d e }

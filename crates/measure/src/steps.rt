@@ -43,6 +43,7 @@ fn stepped_at(k: usize, cleared: bool, d: Device, f: Device, m: Measure) -> Wait
 }
 
 // A step, or what is no clock and no K, from d to f.
+#[tactic(auto, unfolding(crate::specs::Measure::stepped))]
 pub(crate) fn stepped(e: Event, d: Device, f: Device, m: Measure) -> Measure
     ensures { result ≡ stepped_of (clears_of d e) d f m }
 {
@@ -59,6 +60,7 @@ pub(crate) fn stepped(e: Event, d: Device, f: Device, m: Measure) -> Measure
 }
 
 // Source k over the n clocks of a T, from d to f.
+#[tactic(auto, unfolding(rules::specs::Interrupts::relined))]
 fn over(k: usize, n: u32, d: Device, f: Device, m: Measure) -> Wait
     requires { (k < 5) × (0 < n) × (f ≡ relined (ran_of n d).device) × (m.clocks + n ≤ most_clocks) }
     ensures { result ≡ waited k d m.clocks (wait_at m k) n }
@@ -75,6 +77,7 @@ fn over(k: usize, n: u32, d: Device, f: Device, m: Measure) -> Wait
 }
 
 // T n, from d to f.
+#[tactic(auto, unfolding(crate::specs::Measure::ticked))]
 pub(crate) fn ticked(n: u32, d: Device, f: Device, m: Measure) -> Measure
     requires { (f ≡ relined (ran_of n d).device) × (m.clocks + n ≤ most_clocks) }
     ensures { result ≡ ticked_of n d m }
@@ -95,6 +98,7 @@ pub(crate) fn ticked(n: u32, d: Device, f: Device, m: Measure) -> Measure
 }
 
 // K.
+#[tactic(auto, unfolding(crate::specs::Measure::taken))]
 pub(crate) fn taken(d: Device, m: Measure) -> Measure
     ensures { result ≡ taken_of d m }
 {

@@ -23,6 +23,7 @@ pub(crate) fn dropped(w: Wait) -> Wait
 }
 
 // A step: IP before and after it, whether it cleared IP in between, and the trace's clocks.
+#[tactic(auto, unfolding(crate::specs::Wait::moved))]
 pub(crate) fn moved(was: bool, cleared: bool, is: bool, now: u32, w: Wait) -> Wait
     ensures { result ≡ moved_of was cleared is now w }
 {
@@ -44,6 +45,7 @@ fn lasted(now: u32, since: u32) -> u32
     now - since
 }
 
+#[tactic(auto, unfolding(crate::specs::Wait::least_with))]
 fn least_with(n: u64, w: Wait) -> u64
     ensures { result ≡ least_with n w }
 {
@@ -56,6 +58,7 @@ fn least_with(n: u64, w: Wait) -> u64
     w.least
 }
 
+#[tactic(auto, unfolding(crate::specs::Wait::greatest_with))]
 fn greatest_with(n: u64, w: Wait) -> u64
     ensures { result ≡ greatest_with n w }
 {
@@ -80,6 +83,7 @@ fn added(n: u64, w: Wait) -> Wait
 }
 
 // An acknowledge.
+#[tactic(auto, unfolding(crate::specs::Wait::counted))]
 pub(crate) fn counted(now: u32, w: Wait) -> Wait
     ensures { result ≡ counted_of now w }
 {

@@ -1,0 +1,12 @@
+use mathlib.Core.Bool.{true≢false}
+use mathlib.Core.Path.{sym}
+use native.Mathlib.Omega.{arith}
+use borrow.Author.Tests.{eqb-true}
+use Rattle.bench_lines.proofs.Walked.{met-two}
+use borrow.Author.Rules.{rules}
+use Rattle.bench_lines.proofs.agreed.has_two.Goals as goal
+
+pub returns : goal.returns
+returns c =
+    let h = c.requires in
+    λ e. met-two _ _ (omega (arith, h)) c.if-b-at-ne32.false _ _ h c.if-b-at.false (eqb-true _ _ e)
