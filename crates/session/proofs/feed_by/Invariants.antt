@@ -1,17 +1,6 @@
-use Prim.Native.Nat.{◌+◌, ◌-◌, ◌≤◌, ◌<◌}
-use mathlib.Core.Path.{ap}
-use native.Mathlib.Omega.{arith}
-use borrow.Author.Tests.{ltb-true, leb-true}
-use lib.Dec.{ltb, leb}
+use Prim.Native.Nat.{◌-◌}
 use lib.ListN.{length}
-use Rattle.texts.specs.Kept.{text_room}
-use Rattle.session.specs.declared.Fed.{Fed}
-use Rattle.basics.proofs.Tests.{both}
-use Rattle.basics.proofs.Lists.{length-mapped as of_map}
-use Rattle.rules.specs.Record.{Shaped}
-use Rattle.session.proofs.Staying.{fed-sound}
-use borrow.Author.Rules.{rules}
-use Rattle.session.proofs.Feeding.{SoFar, none_yet, one_more, at-end, len-within, out-length, fed-on}
+use Rattle.session.proofs.Feeding.{SoFar}
 use Rattle.session.proofs.feed_by.Given as goal
 
 abbrev pub invariant-loop-f : goal.invariant-loop-f
