@@ -1,4 +1,4 @@
-// What a host in C, Rust or another language links, by `rt staticlib host`: the calls by value, on a state that is the device's image in
+// What a host in C, Rust or another language calls, by the exports of `host_c`: the calls by value, on a state that is the device's image in
 // the host's own buffer. hosts/wolfscarer.h declares them. A slice is a pointer and then a length.
 #![tactic(auto)]
 
@@ -34,9 +34,8 @@ fn refusal(restored: u8, room: usize, needed: usize) -> u8
 }
 
 // A length by its number.
-#[unsafe(no_mangle)]
 #[tactic(auto, unfolding(crate::specs::Calls::length_at))]
-pub extern "C" fn wolfscarer_length(what: u32) -> usize
+pub fn wolfscarer_length(what: u32) -> usize
     ensures { result ≡ length_at what }
 {
     match what {
@@ -52,8 +51,7 @@ pub extern "C" fn wolfscarer_length(what: u32) -> usize
 }
 
 // The fresh Z8036's image, of version 2, into a buffer of exactly its length. Codes: 7 for another length, with nothing written, else 0.
-#[unsafe(no_mangle)]
-pub extern "C" fn wolfscarer_z8036_fresh(state: &mut [u8]) -> u8
+pub fn wolfscarer_z8036_fresh(state: &mut [u8]) -> u8
     ensures { (result ≡ fresh_code (image_of fresh_of) state.old) × (state.new ≡ fresh_state (image_of fresh_of) state.old) }
 {
     if state.len() != Device::IMAGE {
@@ -64,8 +62,7 @@ pub extern "C" fn wolfscarer_z8036_fresh(state: &mut [u8]) -> u8
 
 // An event of a Z8036, in place. Codes: the state's 7, 8, 7, 9, then 7 for an answer buffer that is too short, with neither buffer
 // written; else the event's.
-#[unsafe(no_mangle)]
-pub extern "C" fn wolfscarer_z8036_event(
+pub fn wolfscarer_z8036_event(
     state: &mut [u8],
     kind: u32,
     a: u32,
@@ -95,8 +92,7 @@ pub extern "C" fn wolfscarer_z8036_event(
 }
 
 // INT, IEO and the highest requester's place of a Z8036, with no event. Codes as an event's, else 0.
-#[unsafe(no_mangle)]
-pub extern "C" fn wolfscarer_z8036_lines(state: &[u8], answer: &mut [u8]) -> u8
+pub fn wolfscarer_z8036_lines(state: &[u8], answer: &mut [u8]) -> u8
     ensures { called result state.now answer.new ≡ host_lines state.now answer.old }
 {
     let s = image::restore(state);
@@ -111,8 +107,7 @@ pub extern "C" fn wolfscarer_z8036_lines(state: &[u8], answer: &mut [u8]) -> u8
 }
 
 // The same of a Z8536.
-#[unsafe(no_mangle)]
-pub extern "C" fn wolfscarer_z8536_fresh(state: &mut [u8]) -> u8
+pub fn wolfscarer_z8536_fresh(state: &mut [u8]) -> u8
     ensures { (result ≡ fresh_code (image_z8536 fresh_z8536) state.old) × (state.new ≡ fresh_state (image_z8536 fresh_z8536) state.old) }
 {
     if state.len() != Z8536::IMAGE {
@@ -122,8 +117,7 @@ pub extern "C" fn wolfscarer_z8536_fresh(state: &mut [u8]) -> u8
 }
 
 // An event of a Z8536.
-#[unsafe(no_mangle)]
-pub extern "C" fn wolfscarer_z8536_event(
+pub fn wolfscarer_z8536_event(
     state: &mut [u8],
     kind: u32,
     a: u32,
@@ -153,8 +147,7 @@ pub extern "C" fn wolfscarer_z8536_event(
 }
 
 // The lines of a Z8536.
-#[unsafe(no_mangle)]
-pub extern "C" fn wolfscarer_z8536_lines(state: &[u8], answer: &mut [u8]) -> u8
+pub fn wolfscarer_z8536_lines(state: &[u8], answer: &mut [u8]) -> u8
     ensures { called result state.now answer.new ≡ host_lines_z8536 state.now answer.old }
 {
     let s = image::restore_z8536(state);
@@ -170,8 +163,7 @@ pub extern "C" fn wolfscarer_z8536_lines(state: &[u8], answer: &mut [u8]) -> u8
 }
 
 // The same of a CTC.
-#[unsafe(no_mangle)]
-pub extern "C" fn wolfscarer_ctc_fresh(state: &mut [u8]) -> u8
+pub fn wolfscarer_ctc_fresh(state: &mut [u8]) -> u8
     ensures { (result ≡ fresh_code (image_ctc fresh_ctc) state.old) × (state.new ≡ fresh_state (image_ctc fresh_ctc) state.old) }
 {
     if state.len() != Ctc::IMAGE {
@@ -181,8 +173,7 @@ pub extern "C" fn wolfscarer_ctc_fresh(state: &mut [u8]) -> u8
 }
 
 // An event of a CTC.
-#[unsafe(no_mangle)]
-pub extern "C" fn wolfscarer_ctc_event(
+pub fn wolfscarer_ctc_event(
     state: &mut [u8],
     kind: u32,
     a: u32,
@@ -212,8 +203,7 @@ pub extern "C" fn wolfscarer_ctc_event(
 }
 
 // The end of service of a CTC. Codes as an event's, else 0.
-#[unsafe(no_mangle)]
-pub extern "C" fn wolfscarer_ctc_end_of_service(state: &mut [u8], answer: &mut [u8]) -> u8
+pub fn wolfscarer_ctc_end_of_service(state: &mut [u8], answer: &mut [u8]) -> u8
     ensures { called result state.new answer.new ≡ host_end_ctc state.old answer.old }
 {
     let s = ctc_image::restore(state);
@@ -230,8 +220,7 @@ pub extern "C" fn wolfscarer_ctc_end_of_service(state: &mut [u8], answer: &mut [
 }
 
 // The lines of a CTC, worked out.
-#[unsafe(no_mangle)]
-pub extern "C" fn wolfscarer_ctc_lines(state: &[u8], answer: &mut [u8]) -> u8
+pub fn wolfscarer_ctc_lines(state: &[u8], answer: &mut [u8]) -> u8
     ensures { called result state.now answer.new ≡ host_lines_ctc state.now answer.old }
 {
     let s = ctc_image::restore(state);
