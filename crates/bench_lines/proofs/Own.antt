@@ -19,7 +19,7 @@ use Rattle.lines.specs.Lines.{digit_of, all_decimal, value_of, clocks_in, no_lea
 use Rattle.lines.proofs.Back.{digit-back, clocks-back, decimal-plain}
 use Rattle.bench_lines.specs.Places.{holds_up_to}
 use Rattle.bench_lines.specs.Fields.{fields_from, fields_of, field_at, hole, unmeasured, illegible, is_hole, decimal_in, pair_in, nibble_in, number_at, says_at}
-use Rattle.bench_lines.specs.Compared.{field_count, answer_numbers, readable_at, readable_line, differs_at, not_read, compared_of}
+use Rattle.bench_lines.specs.Compared.{field_count, answer_numbers, readable_at, readable_line, differs_at, compared_of}
 
 -- ---- fields of digits
 -- each byte is a hexadecimal digit

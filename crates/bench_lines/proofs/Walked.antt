@@ -10,7 +10,7 @@ use native.Mathlib.Omega.{arith}
 use lib.ListN.{length, drop, get_or, length-append, length-drop}
 use lib.Seq.{drop-cons}
 use Rattle.texts.specs.Answers.{space, line_feed}
-use Rattle.bench_lines.specs.Walk.{Meets, After, over, next, Begins, field, Up, Met, MetFirst}
+use Rattle.bench_lines.specs.Walk.{Meets, After, over, next, field, Up, Met, MetFirst}
 
 -- ---- bytes of a buffer
 at_byte : (b : List ℕ) (at : ℕ) → at < length b → drop at b ≡ get_or b at 0 ∷ drop (at + 1) b

@@ -38,6 +38,7 @@ fn numbers(a: Answer) -> [u64; FIELDS]
 }
 
 // Of a line that is not readable nothing is said.
+#[tactic(auto, unfolding(crate::specs::Compared::not_read))]
 fn not_read() -> Compared
     ensures { result ≡ not_read }
 {
@@ -80,6 +81,7 @@ pub fn compare(a: Answer, line: &[u8]) -> Compared
 }
 
 // An answer beside a line that is kept; one that found no room is longer than any answer.
+#[tactic(auto, unfolding(crate::specs::Compared::compared_kept))]
 pub fn compare_kept(a: Answer, t: Text) -> Compared
     ensures { result ≡ compared_kept a t }
 {

@@ -8,6 +8,7 @@ pub(crate) const UNMEASURED: u64 = 4294967296;
 
 pub(crate) const UNREADABLE: u64 = 4294967297;
 
+#[tactic(auto, unfolding(crate::specs::Fields::is_hole))]
 fn is_hole(f: &[u8]) -> bool
     ensures { result ≡ is_hole f.now }
 {
@@ -17,6 +18,7 @@ fn is_hole(f: &[u8]) -> bool
     f[0] == b'-'
 }
 
+#[tactic(auto, unfolding(crate::specs::Fields::decimal_in))]
 fn decimal_in(most: u64, f: &[u8]) -> u64
     ensures { result ≡ decimal_in most f.now }
 {
@@ -34,6 +36,7 @@ fn decimal_in(most: u64, f: &[u8]) -> u64
     d
 }
 
+#[tactic(auto, unfolding(crate::specs::Fields::pair_in))]
 fn pair_in(f: &[u8]) -> u64
     ensures { result ≡ pair_in f.now }
 {
@@ -48,6 +51,7 @@ fn pair_in(f: &[u8]) -> u64
     UNREADABLE
 }
 
+#[tactic(auto, unfolding(crate::specs::Fields::nibble_in))]
 fn nibble_in(f: &[u8]) -> u64
     ensures { result ≡ nibble_in f.now }
 {
@@ -61,6 +65,7 @@ fn nibble_in(f: &[u8]) -> u64
     UNREADABLE
 }
 
+#[tactic(auto, unfolding(crate::specs::Fields::number_at))]
 fn number_at(place: usize, f: &[u8]) -> u64
     ensures { result ≡ number_at place f.now }
 {
@@ -79,6 +84,7 @@ fn number_at(place: usize, f: &[u8]) -> u64
     decimal_in(4294967295, f)
 }
 
+#[tactic(auto, unfolding(crate::specs::Fields::says_at))]
 fn says_at(place: usize, f: &[u8]) -> u64
     ensures { result ≡ says_at place f.now }
 {

@@ -7,6 +7,7 @@ use phrases::word;
 use texts::Text;
 
 // The name of the field at a place.
+#[tactic(auto, unfolding(crate::specs::Names::name_of, texts::specs::Spelled::spelled))]
 pub fn field_name(place: usize) -> Text
     ensures { result ≡ typed no_text (name_of place) }
 {

@@ -1,7 +1,4 @@
-use mathlib.Core.Bool.{true≢false}
-use mathlib.Core.Path.{sym}
 use Rattle.bench_lines.proofs.Walked.{met-one}
-use borrow.Author.Rules.{rules}
 use Rattle.bench_lines.proofs.agreed.has_count.Goals as goal
 
 pub returns : goal.returns

@@ -1,9 +1,6 @@
-use mathlib.Core.Bool.{true≢false}
 use mathlib.Core.Logic.{inl, inr}
-use mathlib.Core.Path.{sym}
 use borrow.Author.Tests.{eqb-true}
 use Rattle.bench_lines.proofs.Walked.{met-one, same-one}
-use borrow.Author.Rules.{rules}
 use Rattle.bench_lines.proofs.agreed.has_one.Goals as goal
 
 pub returns-then-x-d : goal.returns-then-x-d

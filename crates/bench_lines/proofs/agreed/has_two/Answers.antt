@@ -1,9 +1,6 @@
-use mathlib.Core.Bool.{true≢false}
-use mathlib.Core.Path.{sym}
 use native.Mathlib.Omega.{arith}
 use borrow.Author.Tests.{eqb-true}
 use Rattle.bench_lines.proofs.Walked.{met-two}
-use borrow.Author.Rules.{rules}
 use Rattle.bench_lines.proofs.agreed.has_two.Goals as goal
 
 pub returns : goal.returns

@@ -1,11 +1,8 @@
-use mathlib.Core.Bool.{true≢false}
-use mathlib.Core.Logic.{inl, inr}
+use mathlib.Core.Logic.{inl}
 use mathlib.Core.Path.{sym, ◌∙◌}
 use native.Mathlib.Omega.{arith}
-use borrow.Author.Tests.{eqb-true}
 use Rattle.texts.proofs.OneDigit.{one-digit}
 use Rattle.bench_lines.proofs.Walked.{same-one}
-use borrow.Author.Rules.{rules}
 use Rattle.bench_lines.proofs.agreed.is_count.Goals as goal
 
 pub returns-then-x-n : goal.returns-then-x-n

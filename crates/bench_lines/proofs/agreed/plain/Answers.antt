@@ -1,7 +1,6 @@
 use mathlib.Core.Path.{sym, ap, ◌∙◌}
 use Rattle.bench_lines.specs.declared.Compared.{Compared}
 use Rattle.bench_lines.proofs.Agreeing.{agreed-by, not-agreed, no_line}
-use borrow.Author.Rules.{rules}
 use Rattle.bench_lines.proofs.agreed.plain.Goals as goal
 
 pub returns-then-c : goal.returns-then-c

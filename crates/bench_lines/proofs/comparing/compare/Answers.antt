@@ -1,9 +1,5 @@
-use Prim.Native.Nat.{◌-◌}
 use mathlib.Core.Path.{◌∙◌}
-use native.Mathlib.Omega.{arith}
-use borrow.Author.Rules.{rules}
-use Rattle.bench_lines.specs.Compared.{field_count}
-use Rattle.bench_lines.proofs.Thirteen.{Upto, upto-none, upto-more, upto-read, upto-not}
+use Rattle.bench_lines.proofs.Thirteen.{upto-none, upto-more, upto-read, upto-not}
 use Rattle.bench_lines.proofs.comparing.compare.Goals as goal
 
 pub loop-i-init : goal.loop-i-init
@@ -12,8 +8,7 @@ loop-i-init c = upto-none _ _
 pub loop-i-preserved : goal.loop-i-preserved
 loop-i-preserved c =
     let f = c.next_field-f in
-    
-    upto-more _ _ _ _ _ _ _ _ c.loop-i.invariant _ _ _ c.loop-i-test.true f.ensures.0 f.ensures.1.0 f.ensures.1.1
+    upto-more _ _ _ _ _ _ _ _ c.loop-i.invariant _ _ _ c.loop-i-test.true f.ensures.says_value f.ensures.more_value f.ensures.at_in_bounds
 
 pub returns-then-readable-more : goal.returns-then-readable-more
 returns-then-readable-more c =

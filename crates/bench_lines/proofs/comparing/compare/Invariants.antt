@@ -1,9 +1,6 @@
 use Prim.Native.Nat.{◌-◌}
-use mathlib.Core.Path.{◌∙◌}
-use native.Mathlib.Omega.{arith}
-use borrow.Author.Rules.{rules}
 use Rattle.bench_lines.specs.Compared.{field_count}
-use Rattle.bench_lines.proofs.Thirteen.{Upto, upto-none, upto-more, upto-read, upto-not}
+use Rattle.bench_lines.proofs.Thirteen.{Upto}
 use Rattle.bench_lines.proofs.comparing.compare.Given as goal
 
 abbrev pub invariant-loop-i : goal.invariant-loop-i

@@ -1,7 +1,6 @@
-use borrow.Author.Tests.{le-leb, lt-leb}
+use borrow.Author.Tests.{le-leb}
 use Rattle.bench_lines.specs.Fields.{decimal_in}
 use Rattle.bench_lines.proofs.Plain.{none-plain, plain_by}
-use borrow.Author.Rules.{rules}
 use Rattle.bench_lines.proofs.fields.decimal_in.Goals as goal
 
 pub returns-then-n-eq0 : goal.returns-then-n-eq0

@@ -1,7 +1,5 @@
-use Prim.Native.Nat.{◌-◌, ◌≤◌}
 use native.Mathlib.Omega.{arith}
-use lib.ListN.{length}
-use Rattle.bench_lines.proofs.Reading.{Read, read_none, read_more, read-space, read-end}
+use Rattle.bench_lines.proofs.Reading.{read_more, read-space, read-end}
 use Rattle.bench_lines.proofs.fields.field_end.Goals as goal
 
 pub returns-then-line-i-eq32 : goal.returns-then-line-i-eq32

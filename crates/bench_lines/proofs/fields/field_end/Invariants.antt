@@ -1,7 +1,6 @@
 use Prim.Native.Nat.{◌-◌, ◌≤◌}
-use native.Mathlib.Omega.{arith}
 use lib.ListN.{length}
-use Rattle.bench_lines.proofs.Reading.{Read, read_none, read_more, read-space, read-end}
+use Rattle.bench_lines.proofs.Reading.{Read}
 use Rattle.bench_lines.proofs.fields.field_end.Given as goal
 
 abbrev pub invariant-loop-i : goal.invariant-loop-i
