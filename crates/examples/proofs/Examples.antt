@@ -45,7 +45,8 @@ unfolding answered_from answers_each expected places_each byte_of every any byte
     takes loaded terminal_of count_of pulse_of output_of link_of reach_of clocks clocked_by turn_of frozen_by triggered_by commanded_by thawed
     shown enabled_by pin_bit path_bit catches caught_bit seen_bit pins_of path_of catches_at caught_of seen_of level_of standing
     value_at pins_at path_at seen_at data_at output_bit cleared_bit put_of unprotected written_data on_bit hit_bit on_at hit_at
-    and_match or_match match_of event_by hides_by highest_of highest_match fate_of after_fate came was_lost first_of first served pending requests requester int_of ieo_of place_of lines_of relined vector_of
+    and_match or_match match_of event_by hides_by highest_of highest_match fate_of after_fate came was_lost first_of first served pending requests
+    requester int_of ieo_of place_of lines_of relined vector_of
     counter_status port_status priority_status highest_at port_vector with_status vector_for acknowledged acknowledge pending_counter vector_read current_vector
     lines_at event_at turned counter_turn caught_at catchers matched_by pattern_turn settled step_of reported clock_of iterate
     ran_of port_command counter_command read_of after_read master_written config_written port_commanded counter_commanded

@@ -23,12 +23,14 @@ later-row zero zs t = row_along zs t
 later-row (suc i) [] t = []
 later-row (suc i) (z ∷ zs) t = z ∷ later-row i zs t
 
-pub pass_step : (i : ℕ) (zs : List Device) (t : Pass) (d : Device) → i < length zs → later-pass (suc i) (set zs i (visit_of (get_or zs i d) t).device) (visit_of (get_or zs i d) t).pass ≡ later-pass i zs t
+pub pass_step : (i : ℕ) (zs : List Device) (t : Pass) (d : Device) → i < length zs
+    → later-pass (suc i) (set zs i (visit_of (get_or zs i d) t).device) (visit_of (get_or zs i d) t).pass ≡ later-pass i zs t
 pass_step i [] t d l = absurd (not-suc-le-zero l)
 pass_step zero (z ∷ zs) t d l = refl
 pass_step (suc i) (z ∷ zs) t d l = pass_step i zs t d (le_of_suc-le-suc l)
 
-pub row_step : (i : ℕ) (zs : List Device) (t : Pass) (d : Device) → i < length zs → later-row (suc i) (set zs i (visit_of (get_or zs i d) t).device) (visit_of (get_or zs i d) t).pass ≡ later-row i zs t
+pub row_step : (i : ℕ) (zs : List Device) (t : Pass) (d : Device) → i < length zs
+    → later-row (suc i) (set zs i (visit_of (get_or zs i d) t).device) (visit_of (get_or zs i d) t).pass ≡ later-row i zs t
 row_step i [] t d l = absurd (not-suc-le-zero l)
 row_step zero (z ∷ zs) t d l = refl
 row_step (suc i) (z ∷ zs) t d l = ap {B = List Device} (λ ws. z ∷ ws) (row_step i zs t d (le_of_suc-le-suc l))
