@@ -8,7 +8,7 @@ use prog.Routine.{Routine}
 use types.Logic.{Logic}
 use contract.Lifetimes.{Lfts}
 use contract.Monad.{Fun, conj, conj_l, conj_r, fact, fact_i, fact_use}
-use denote.Ref.{Bor}
+use denote.MutBor.{MutBor}
 use denote.Triple.Clauses.{AtExit}
 use Rattle.rules.specs.declared.Device.{Device}
 use Rattle.rules.specs.declared.Event.{Event}
@@ -29,7 +29,7 @@ use Rattle.ctc_place.specs.contracts.end_of_service_in_place as end-in-place
 module _ {M : Type 1} {𝓤 : Ura M} (𝓛 : Logic 𝓤) (at_mem : Memory → SProp 𝓤) (run : Routine → Fun 𝓤) where
   -- "Beside the call that hands a record back there is one that alters the host's device where it stands, with the same answer."
   -- Whatever answers r, with the device lent as it is at the exit x, and s satisfy the two promises for one device and one event, they are the same answer and the same record.
-  pub same_answer : (κs : Lfts 1) (d : Bor Device) (e : Event) (r : Answer) (x : AtExit in_place.ended κs) (s : Outcome) (y : AtExit by_value.ended tt)
+  pub same_answer : (κs : Lfts 1) (d : MutBor Device) (e : Event) (r : Answer) (x : AtExit in_place.ended κs) (s : Outcome) (y : AtExit by_value.ended tt)
       → ent 𝓤 (conj 𝓤 ((in_place.clauses 𝓛 at_mem run κs (d, (e, tt))).ensures tt r x) ((by_value.clauses 𝓛 at_mem run tt (d.now, (e, tt))).ensures tt s y))
       (fact 𝓤 ((r ≡ s.answer) × (x.0.now ≡ s.device)))
   same_answer κs d e r x s y =
@@ -40,7 +40,7 @@ module _ {M : Type 1} {𝓤 : Ura M} (𝓛 : Logic 𝓤) (at_mem : Memory → SP
       fact_i 𝓤 ((r ≡ s.answer) × (x.0.now ≡ s.device)) _ (p.0 ∙ sym (ap (λ (o : Outcome). o.answer) q), p.1 ∙ sym (ap (λ (o : Outcome). o.device) q))))
 
   -- of the CTC (paper 02, W-213)
-  pub same-answer-ctc : (κs : Lfts 1) (d : Bor Ctc) (e : Event) (r : CtcAnswer) (x : AtExit ctc-in-place.ended κs) (s : CtcOutcome) (y : AtExit ctc-by-value.ended tt)
+  pub same-answer-ctc : (κs : Lfts 1) (d : MutBor Ctc) (e : Event) (r : CtcAnswer) (x : AtExit ctc-in-place.ended κs) (s : CtcOutcome) (y : AtExit ctc-by-value.ended tt)
       → ent 𝓤 (conj 𝓤 ((ctc-in-place.clauses 𝓛 at_mem run κs (d, (e, tt))).ensures tt r x) ((ctc-by-value.clauses 𝓛 at_mem run tt (d.now, (e, tt))).ensures tt s y))
       (fact 𝓤 ((r ≡ s.answer) × (x.0.now ≡ s.device)))
   same-answer-ctc κs d e r x s y =
@@ -50,7 +50,7 @@ module _ {M : Type 1} {𝓤 : Ura M} (𝓛 : Logic 𝓤) (at_mem : Memory → SP
       fact_use 𝓤 (s ≡ event_ctc d.now e) (conj_r 𝓤 P Q) (λ q.
       fact_i 𝓤 ((r ≡ s.answer) × (x.0.now ≡ s.device)) _ (p.0 ∙ sym (ap (λ (o : CtcOutcome). o.answer) q), p.1 ∙ sym (ap (λ (o : CtcOutcome). o.device) q))))
 
-  pub same_end : (κs : Lfts 1) (d : Bor Ctc) (r : CtcAnswer) (x : AtExit end-in-place.ended κs) (s : CtcOutcome) (y : AtExit end-by-value.ended tt)
+  pub same_end : (κs : Lfts 1) (d : MutBor Ctc) (r : CtcAnswer) (x : AtExit end-in-place.ended κs) (s : CtcOutcome) (y : AtExit end-by-value.ended tt)
       → ent 𝓤 (conj 𝓤 ((end-in-place.clauses 𝓛 at_mem run κs (d, tt)).ensures tt r x) ((end-by-value.clauses 𝓛 at_mem run tt (d.now, tt)).ensures tt s y))
       (fact 𝓤 ((r ≡ s.answer) × (x.0.now ≡ s.device)))
   same_end κs d r x s y =

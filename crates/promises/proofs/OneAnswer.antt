@@ -39,7 +39,6 @@ use Rattle.lines.specs.Pieces.{cut_from, feed_at}
 use Rattle.measure.specs.Measure.{measure_start, measured_of, table_of}
 use Rattle.phrases.specs.Refusals.{refusal, trouble}
 use Rattle.refusals.specs.Known.{known_code}
-use Rattle.registers.specs.Place.{place}
 use Rattle.row_bridge.specs.Boards.{boarded}
 use Rattle.row_lines.specs.RowLines.{device_text, head_text, row_line}
 use Rattle.row_visit.specs.Visits.{acting_of, looking_of, visit_of}
@@ -56,7 +55,6 @@ use Rattle.rules.specs.Record.{fresh_of, image_len, of_counter, of_port, pattern
 use Rattle.rules.specs.Registers.{commanded, counter_command_of, counter_on, kind_of, port_command_of, port_enabled, port_on, reset}
 use Rattle.rules.specs.Sound.{same_counter, same_of, same_source, sound_of}
 use Rattle.rules.specs.Step.{catchers, lines_at, ran_of, step_of}
-use Rattle.rules.specs.With.{device}
 use Rattle.session.specs.Sessions.{answered, answers_in, answers_last, bytes_read, fed_by, finished_by, start_of}
 use Rattle.theorems.specs.Alone.{alone_after, placed_by, struck_by}
 use Rattle.theorems.specs.Moving.{pair_of, paired_by}
