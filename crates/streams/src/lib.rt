@@ -1,0 +1,49 @@
+// Bytes of a reader and bytes to a writer: how many came, and whether all went. Where the system fails, nothing comes and nothing goes.
+#![tactic(auto)]
+
+ghost use Rattle.std.specs.Prelude.{◌≡◌, true, take};
+ghost use Rattle.std.specs.Io.KnownBytes.{Appends, Consumes};
+ghost use Rattle.streams.specs.Counts.{IsPrefixLen};
+
+use std::io::{Read, Write};
+
+// How many bytes of an input are in hand at a time, and of its answers.
+pub const PIECE: usize = 65_536;
+
+// A buffer that holds any name of a file.
+pub const NAME: usize = 4_096;
+
+// Reads once, and answers how many bytes came; none at the end of the input, nor where it cannot be read.
+pub fn read<R: Read>(input: &mut R, buf: &mut [u8]) -> usize
+    ensures in_hand { IsPrefixLen result buf.new }
+    ensures bytes { Consumes (R.remaining input.old) (R.remaining input.new) (take result buf.new) }
+{
+    input.read(buf).unwrap_or(0)
+}
+
+// Reads until the buffer is full, the input ends or it cannot be read, and answers how many bytes stand in front of the buffer.
+pub fn read_full<R: Read>(input: &mut R, buf: &mut [u8]) -> usize
+    ensures { IsPrefixLen result buf.new }
+{
+    let mut done = 0;
+    while done < buf.len() {
+        let n = read(input, &mut buf[done..]);
+        if n == 0 {
+            break;
+        }
+        done += n;
+    }
+    done
+}
+
+// Writes bytes. Answers whether all of them were written.
+pub fn write_all<W: Write>(out: &mut W, bytes: &[u8]) -> bool
+    ensures { result ≡ true → Appends (W.contents out.old) (W.contents out.new) bytes.now }
+{
+    out.write_all(bytes).is_ok()
+}
+
+// Writes a number in decimal digits. Answers whether all of them were written.
+pub fn print_decimal<W: Write>(out: &mut W, n: u64) -> bool {
+    write!(out, "{n}").is_ok()
+}
