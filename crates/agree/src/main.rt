@@ -2,8 +2,6 @@
 // names, from the fresh Z8036 or from the image file that its third argument names.
 #![tactic(auto)]
 
-use libc::{STDERR_FILENO, STDOUT_FILENO};
-
-fn main() {
-    agreement::agree_arguments(STDOUT_FILENO, STDERR_FILENO);
+fn main(rt: HostRuntime) {
+    agreement::agree_arguments(&rt, &mut rt.stdout(), &mut rt.stderr());
 }

@@ -1,24 +1,28 @@
-// Texts and answers on descriptors.
+// Texts and answers on streams.
 #![tactic(auto)]
 
-ghost use Rattle.std.specs.Prelude.{false, ◌≡◌, ◌≤◌, ◌<◌, length};
+ghost use Rattle.std.specs.Prelude.{true, false, ◌≡◌, ◌≤◌, ◌<◌, length, take};
+ghost use Rattle.std.specs.Io.KnownBytes.{Appends};
 ghost use Rattle.texts.specs.Kept.{text_room};
 ghost use Rattle.session.specs.Sessions.{device_last};
 
 use chip::Chip;
 use session::Session;
+use std::io::{Read, Write};
+use streams::{BUFFER, LARGE_BUFFER};
 use texts::{ROOM, Text};
 
 // Writes a text. Answers whether all of it was written; a text that has no room is not.
-pub fn print(fd: i32, t: Text) -> bool
-    ensures { text_room < t.len → result ≡ false }
+pub fn print<W: Write>(out: &mut W, t: Text) -> bool
+    ensures no_room { text_room < t.len → result ≡ false }
+    ensures bytes { result ≡ true → Appends (W.contents out.old) (W.contents out.new) (take t.len t.bytes) }
 {
     let n = t.len;
     if ROOM < n {
         return false;
     }
     let b = t.bytes;
-    io::write_all(fd, &b[..n])
+    streams::write_all(out, &b[..n])
 }
 
 // A session, whether to go on, and whether all answers are written.
@@ -30,7 +34,7 @@ struct Turn {
 }
 
 // Answers the lines of a piece, and writes the answers out whenever the buffer may be full, and at the end of the piece.
-fn answer_piece(s: Session, piece: &[u8], out: &mut [u8], answers: i32) -> Turn
+fn answer_piece<W: Write>(s: Session, piece: &[u8], out: &mut [u8], answers: &mut W) -> Turn
     requires { text_room ≤ length out.old }
 {
     let mut t = s;
@@ -40,7 +44,7 @@ fn answer_piece(s: Session, piece: &[u8], out: &mut [u8], answers: i32) -> Turn
         let n = f.len;
         t = f.session;
         at = f.next;
-        if !io::write_all(answers, &out[..n]) {
+        if !streams::write_all(answers, &out[..n]) {
             return Turn {
                 session: t,
                 more: false,
@@ -56,24 +60,35 @@ fn answer_piece(s: Session, piece: &[u8], out: &mut [u8], answers: i32) -> Turn
 }
 
 // Reads once, and answers what came.
-fn answer_some(s: Session, input: i32, read: &mut [u8], out: &mut [u8], answers: i32) -> Turn
+fn answer_some<R: Read, W: Write>(
+    s: Session,
+    input: &mut R,
+    read: &mut [u8],
+    out: &mut [u8],
+    answers: &mut W,
+) -> Turn
     requires { text_room ≤ length out.old }
 {
-    let got = libc::read(input, read);
-    if got <= 0 {
+    let n = streams::read(input, read);
+    if n == 0 {
         return Turn {
             session: s,
             more: false,
             ok: true,
         };
     }
-    let n = io::count(got, read);
     answer_piece(s, &read[..n], out, answers)
 }
 
 // A proved loop has to end, and nothing says that the input does. So the loop counts its turns down, from a number that
 // no run uses up.
-fn answer_all(s: Session, input: i32, read: &mut [u8], out: &mut [u8], answers: i32) -> Turn
+fn answer_all<R: Read, W: Write>(
+    s: Session,
+    input: &mut R,
+    read: &mut [u8],
+    out: &mut [u8],
+    answers: &mut W,
+) -> Turn
     requires { text_room ≤ length out.old }
 {
     let mut t = s;
@@ -105,21 +120,21 @@ pub struct Ended {
 }
 
 // "the last line feed may be missing": answers a last line that has none.
-fn answer_last(s: Session, answers: i32) -> Ended
+fn answer_last<W: Write>(s: Session, answers: &mut W) -> Ended
     ensures { result.device ≡ device_last s }
 {
-    let mut out = io::buffer();
+    let mut out = [0; BUFFER];
     let a = session::finish(s, &mut out);
     let n = a.len;
     let d = a.device;
-    let ok = io::write_all(answers, &out[..n]);
+    let ok = streams::write_all(answers, &out[..n]);
     Ended { device: d, ok }
 }
 
 // Answers the lines of an input as they arrive, from a device on.
-pub fn run(d: Chip, input: i32, answers: i32) -> Ended {
-    let mut read = io::large_buffer();
-    let mut out = io::large_buffer();
+pub fn run<R: Read, W: Write>(d: Chip, input: &mut R, answers: &mut W) -> Ended {
+    let mut read = [0; LARGE_BUFFER];
+    let mut out = [0; LARGE_BUFFER];
     let t = answer_all(session::start(d), input, &mut read, &mut out, answers);
     let e = answer_last(t.session, answers);
     let f = e.device;

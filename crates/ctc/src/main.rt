@@ -2,8 +2,7 @@
 #![tactic(auto)]
 
 use ctc_rules::Ctc;
-use libc::{STDIN_FILENO, STDOUT_FILENO};
 
-fn main() {
-    ctc_console::run(Ctc::fresh(), STDIN_FILENO, STDOUT_FILENO);
+fn main(rt: HostRuntime) {
+    ctc_console::run(Ctc::fresh(), &mut rt.stdin(), &mut rt.stdout());
 }

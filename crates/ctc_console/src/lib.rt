@@ -1,10 +1,12 @@
-// A CTC's trace on descriptors, line by line.
+// A CTC's trace on streams, line by line.
 #![tactic(auto)]
 
 ghost use Rattle.std.specs.Prelude.{◌≡◌};
 ghost use Rattle.ctc_lines.specs.Lines.{outcome_kept};
 
 use ctc_rules::Ctc;
+use std::io::{Read, Write};
+use streams::LARGE_BUFFER;
 use texts::Text;
 
 // A device after a trace, and whether all answers are written.
@@ -15,7 +17,7 @@ pub struct CtcEnded {
 }
 
 // Says a line to the device, and writes the answer.
-fn answer(d: Ctc, t: Text, answers: i32) -> CtcEnded
+fn answer<W: Write>(d: Ctc, t: Text, answers: &mut W) -> CtcEnded
     ensures { result.device ≡ (outcome_kept d t).device }
 {
     let o = ctc_lines::outcome(d, t);
@@ -27,8 +29,8 @@ fn answer(d: Ctc, t: Text, answers: i32) -> CtcEnded
 
 // Answers the lines of an input as they arrive, from a device on, as long as the answers can be written. (A proved loop has to end, and
 // nothing says that the input does: its turns are counted down, from a number that no run uses up.)
-pub fn run(d: Ctc, trace: i32, answers: i32) -> CtcEnded {
-    let mut buf = io::large_buffer();
+pub fn run<R: Read, W: Write>(d: Ctc, trace: &mut R, answers: &mut W) -> CtcEnded {
+    let mut buf = [0; LARGE_BUFFER];
     let mut r = input::start();
     let mut e = CtcEnded {
         device: d,

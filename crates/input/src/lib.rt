@@ -5,6 +5,7 @@ ghost use Rattle.std.specs.Prelude.{◌≡◌, true};
 ghost use Rattle.input.specs.Input.{unread, handed as handed_of, line_next, line_last};
 
 use lines::Cut;
+use std::io::Read;
 use texts::Text;
 
 // What is kept of a line that has not ended, and which bytes of the buffer are still to come: from one place to another.
@@ -85,18 +86,18 @@ fn cut(r: Reader, buf: &[u8]) -> Next
 
 // The rest of a line that has begun. A proved loop has to end, and nothing says that a line does: the turns are counted down,
 // from a number that no run uses up.
-fn read_on(t: Text, input: i32, buf: &mut [u8]) -> Next {
+fn read_on<R: Read>(t: Text, input: &mut R, buf: &mut [u8]) -> Next {
     let mut u = t;
     let mut turns = u64::MAX;
     while turns > 0 {
-        let got = libc::read(input, buf);
-        if got <= 0 {
+        let end = streams::read(input, buf);
+        if end == 0 {
             return last(u);
         }
         let r = Reader {
             text: u,
             at: 0,
-            end: io::count(got, buf),
+            end,
         };
         let n = cut(r, buf);
         if n.found {
@@ -109,8 +110,8 @@ fn read_on(t: Text, input: i32, buf: &mut [u8]) -> Next {
 }
 
 // The next line of an input: where its end was read already, that line, and nothing more is read.
-pub fn next_line(r: Reader, input: i32, buf: &mut [u8]) -> Next
-    ensures { (line_next r buf.old).found ≡ true → (result ≡ line_next r buf.old) × (buf.new ≡ buf.old) }
+pub fn next_line<R: Read>(r: Reader, input: &mut R, buf: &mut [u8]) -> Next
+    ensures { (line_next r buf.old).found ≡ true → (result ≡ line_next r buf.old) × (buf.new ≡ buf.old) × (input.new ≡ input.old) }
 {
     let n = cut(r, buf);
     if n.found {

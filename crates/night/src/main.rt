@@ -2,8 +2,6 @@
 // image file that its second argument names.
 #![tactic(auto)]
 
-use libc::{STDERR_FILENO, STDIN_FILENO, STDOUT_FILENO};
-
-fn main() {
-    image_files::night_arguments(STDIN_FILENO, STDOUT_FILENO, STDERR_FILENO);
+fn main(rt: HostRuntime) {
+    image_files::night_arguments(&rt, &mut rt.stdin(), &mut rt.stdout(), &mut rt.stderr());
 }

@@ -7,11 +7,11 @@ ghost use Rattle.streams.specs.Counts.{IsPrefixLen};
 
 use std::io::{Read, Write};
 
-// How many bytes of an input are in hand at a time, and of its answers.
-pub const PIECE: usize = 65_536;
-
 // A buffer that holds any name of a file.
-pub const NAME: usize = 4_096;
+pub const BUFFER: usize = 4_096;
+
+// A buffer for a loop that moves many bytes.
+pub const LARGE_BUFFER: usize = 65_536;
 
 // Reads once, and answers how many bytes came; none at the end of the input, nor where it cannot be read.
 pub fn read<R: Read>(input: &mut R, buf: &mut [u8]) -> usize

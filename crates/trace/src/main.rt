@@ -2,9 +2,9 @@
 #![tactic(auto)]
 
 use chip::Chip;
-use libc::{STDIN_FILENO, STDOUT_FILENO};
 use rules::Device;
 
-fn main() {
-    console::run(Chip::of_z8036(Device::fresh()), STDIN_FILENO, STDOUT_FILENO);
+fn main(rt: HostRuntime) {
+    let d = Chip::of_z8036(Device::fresh());
+    console::run(d, &mut rt.stdin(), &mut rt.stdout());
 }

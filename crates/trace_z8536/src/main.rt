@@ -2,9 +2,9 @@
 #![tactic(auto)]
 
 use chip::Chip;
-use libc::{STDIN_FILENO, STDOUT_FILENO};
 use z8536::Z8536;
 
-fn main() {
-    console::run(Chip::of_z8536(Z8536::fresh()), STDIN_FILENO, STDOUT_FILENO);
+fn main(rt: HostRuntime) {
+    let d = Chip::of_z8536(Z8536::fresh());
+    console::run(d, &mut rt.stdin(), &mut rt.stdout());
 }
