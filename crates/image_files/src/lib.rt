@@ -6,8 +6,11 @@ mod files;
 use chip::Chip;
 use console::print;
 use ctc_rules::Ctc;
-pub use files::{keep, keep_ctc, load, trouble};
+pub use files::{keep, keep_ctc, load, open_read, trouble};
 use rules::Device;
+use std::io::{Read, Write};
+use std::rt::{Env, Files};
+use streams::{BUFFER, write_all};
 
 // A device, and whether there is one; where not, a line has said why. A CTC is in `ctc`, beside a fresh Z8036; any other in `device`,
 // beside a fresh CTC.
@@ -19,7 +22,7 @@ pub struct Loaded {
     pub ok: bool,
 }
 
-fn show_all(d: Device, out: i32) {
+fn show_all<W: Write>(d: Device, out: &mut W) {
     let mut n = 0;
     while n < words::LINES {
         print(out, words::line(d, n));
@@ -28,7 +31,7 @@ fn show_all(d: Device, out: i32) {
 }
 
 // A device in words: of a Z8536 its pointer, then its core.
-pub fn show_device(c: Chip, out: i32) {
+pub fn show_device<W: Write>(c: Chip, out: &mut W) {
     let z = c.device;
     if c.z8536 {
         print(out, words::pointer_line(z.pointer, z.pointed));
@@ -36,7 +39,7 @@ pub fn show_device(c: Chip, out: i32) {
     show_all(z.core, out);
 }
 
-fn show_ctc(d: Ctc, out: i32) {
+fn show_ctc<W: Write>(d: Ctc, out: &mut W) {
     let mut n = 0;
     while n < ctc_words::LINES {
         print(out, ctc_words::line(d, n));
@@ -45,8 +48,8 @@ fn show_ctc(d: Ctc, out: i32) {
 }
 
 // Prints the device of an image file in words.
-pub fn show(path: &[u8], out: i32, report: i32) {
-    let l = files::load(path, report);
+pub fn show<F: Files, W: Write, E: Write>(files: &F, path: &[u8], out: &mut W, report: &mut E) {
+    let l = load(files, path, report);
     if !l.ok {
         return;
     }
@@ -57,84 +60,115 @@ pub fn show(path: &[u8], out: i32, report: i32) {
     show_device(l.device, out);
 }
 
-fn unwritten(report: i32) {
-    io::write_all(report, b"the answers cannot be written\n");
+fn unwritten<E: Write>(report: &mut E) {
+    write_all(report, b"the answers cannot be written\n");
 }
 
 // Runs a trace on a device, and saves it; likewise on a CTC.
-fn run_device(d: Chip, to: &[u8], input: i32, answers: i32, report: i32) -> bool {
+fn run_device<F: Files, R: Read, W: Write, E: Write>(
+    files: &F,
+    d: Chip,
+    to: &[u8],
+    input: &mut R,
+    answers: &mut W,
+    report: &mut E,
+) -> bool {
     let r = console::run(d, input, answers);
     if !r.ok {
         unwritten(report);
         return false;
     }
     let e = r.device;
-    files::keep(to, e, report)
+    keep(files, to, e, report)
 }
 
-fn run_ctc(d: Ctc, to: &[u8], input: i32, answers: i32, report: i32) -> bool {
+fn run_ctc<F: Files, R: Read, W: Write, E: Write>(
+    files: &F,
+    d: Ctc,
+    to: &[u8],
+    input: &mut R,
+    answers: &mut W,
+    report: &mut E,
+) -> bool {
     let r = ctc_console::run(d, input, answers);
     if !r.ok {
         unwritten(report);
         return false;
     }
     let e = r.device;
-    files::keep_ctc(to, e, report)
+    keep_ctc(files, to, e, report)
 }
 
-// Restores the device of one image file, runs the trace of a descriptor on it, and saves the device to another image
+// Restores the device of one image file, runs the trace of an input on it, and saves the device to another image
 // file, which may be the same. Answers whether it is saved; where not, a line has said why.
-pub fn night(from: &[u8], to: &[u8], input: i32, answers: i32, report: i32) -> bool {
-    let l = files::load(from, report);
+pub fn night<F: Files, R: Read, W: Write, E: Write>(
+    files: &F,
+    from: &[u8],
+    to: &[u8],
+    input: &mut R,
+    answers: &mut W,
+    report: &mut E,
+) -> bool {
+    let l = load(files, from, report);
     if !l.ok {
         return false;
     }
-    if !files::can_keep(to, report) {
+    if !files::can_keep(files, to, report) {
         return false;
     }
     if l.is_ctc {
-        return run_ctc(l.ctc, to, input, answers, report);
+        return run_ctc(files, l.ctc, to, input, answers, report);
     }
-    run_device(l.device, to, input, answers, report)
+    run_device(files, l.device, to, input, answers, report)
 }
 
 // As the program `show` does, by its argument.
-pub fn show_argument(out: i32, report: i32) {
-    let mut path = io::buffer();
-    let n = os::arg(1, &mut path);
-    if os::errno() != 0 {
-        io::write_all(report, b"show: the argument is IN, an image file\n");
-        return;
+pub fn show_argument<S: Files + Env, W: Write, E: Write>(system: &S, out: &mut W, report: &mut E) {
+    let mut path = [0; BUFFER];
+    match system.arg(1, &mut path) {
+        Ok(n) => show(system, &path[..n], out, report),
+        Err(_) => {
+            write_all(report, b"show: the argument is IN, an image file\n");
+        }
     }
-    show(&path[..n], out, report);
 }
 
 // As the program `night` does, by its arguments.
-pub fn night_arguments(input: i32, answers: i32, report: i32) {
-    let mut from = io::buffer();
-    let n = os::arg(1, &mut from);
-    let no_from = os::errno() != 0;
-    let mut to = io::buffer();
-    let m = os::arg(2, &mut to);
-    let no_to = os::errno() != 0;
-    if no_from | no_to {
-        io::write_all(
-            report,
-            b"night: the arguments are IN and OUT, image files\n",
-        );
-        return;
+pub fn night_arguments<S: Files + Env, R: Read, W: Write, E: Write>(
+    system: &S,
+    input: &mut R,
+    answers: &mut W,
+    report: &mut E,
+) {
+    let mut from = [0; BUFFER];
+    let mut to = [0; BUFFER];
+    match (system.arg(1, &mut from), system.arg(2, &mut to)) {
+        (Ok(n), Ok(m)) => {
+            night(system, &from[..n], &to[..m], input, answers, report);
+        }
+        _ => {
+            write_all(
+                report,
+                b"night: the arguments are IN and OUT, image files\n",
+            );
+        }
     }
-    night(&from[..n], &to[..m], input, answers, report);
 }
 
 // A night whose trace is a file.
-pub fn night_of(from: &[u8], to: &[u8], trace: &[u8], answers: i32, report: i32) -> bool {
-    let fd = os::open_read(trace);
-    if fd < 0 {
-        files::trouble(report, trace, false);
-        return false;
+pub fn night_of<F: Files, W: Write, E: Write>(
+    files: &F,
+    from: &[u8],
+    to: &[u8],
+    trace: &[u8],
+    answers: &mut W,
+    report: &mut E,
+) -> bool {
+    match open_read(files, trace) {
+        Ok(mut input) => night(files, from, to, &mut input, answers, report),
+        Err(error) => {
+            trouble(report, trace, false, &error);
+            false
+        }
     }
-    let ok = night(from, to, fd, answers, report);
-    libc::close(fd);
-    ok
 }
