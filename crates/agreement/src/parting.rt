@@ -9,6 +9,8 @@ use bench_lines::FIELDS;
 use chip::Chip;
 use console::print;
 use input::Reader;
+use std::io::{Read, Write};
+use streams::{LARGE_BUFFER, print_decimal, write_all};
 use texts::{ROOM, Text};
 
 // How many lines agree; then the number of the line that does not, or that is not there, and of what was found there.
@@ -96,24 +98,24 @@ fn ready(r: Reader, buf: &[u8]) -> usize
 }
 
 // A label as `show` has them, and a line as it stands in its file.
-fn print_line(out: i32, label: &[u8], t: Text) {
-    io::write_all(out, label);
+fn print_line<W: Write>(out: &mut W, label: &[u8], t: Text) {
+    write_all(out, label);
     if ROOM < t.len {
-        io::write_all(out, b"a line of more than 96 bytes\n");
+        write_all(out, b"a line of more than 96 bytes\n");
         return;
     }
     print(out, t);
-    io::write_all(out, b"\n");
+    write_all(out, b"\n");
 }
 
-fn print_field(out: i32, place: usize, differs: bool) {
+fn print_field<W: Write>(out: &mut W, place: usize, differs: bool) {
     if differs {
         print_line(out, b"differs         ", bench_lines::field_name(place));
     }
 }
 
 // The fields that differ, by name.
-fn print_fields(out: i32, differs: [bool; FIELDS]) {
+fn print_fields<W: Write>(out: &mut W, differs: [bool; FIELDS]) {
     let mut i = 0;
     while i < FIELDS {
         print_field(out, i, differs[i]);
@@ -122,31 +124,36 @@ fn print_fields(out: i32, differs: [bool; FIELDS]) {
 }
 
 // A line that is readable and does not agree, and the device before it.
-fn print_parted(out: i32, line: u64, d: Chip, event: Text, board: Text, t: Turn) {
+fn print_parted<W: Write>(out: &mut W, line: u64, d: Chip, event: Text, board: Text, t: Turn) {
     let m = t.model;
     let c = t.compared;
     let differs = c.differs;
     if !c.readable {
         return;
     }
-    io::write_all(out, b"line            ");
-    io::print_decimal(out, line);
-    io::write_all(out, b"\n");
+    write_all(out, b"line            ");
+    print_decimal(out, line);
+    write_all(out, b"\n");
     print_line(out, b"event           ", event);
     print_line(out, b"board           ", board);
-    io::write_all(out, b"model           ");
+    write_all(out, b"model           ");
     print(out, texts::answer_text(m));
     print_fields(out, differs);
-    io::write_all(out, b"before this event\n");
+    write_all(out, b"before this event\n");
     image_files::show_device(d, out);
 }
 
-// The lines of two descriptors side by side, up to the first that does not agree, which is printed, or that one of them has not. (A
+// The lines of two inputs side by side, up to the first that does not agree, which is printed, or that one of them has not. (A
 // proved loop has to end, and nothing says that the input does: its turns are counted, up to a number that no run reaches.) Whether the
 // device is sound is asked once.
-pub(crate) fn part(d: Chip, events: i32, answers: i32, out: i32) -> Stop {
-    let mut read = io::large_buffer();
-    let mut measured = io::large_buffer();
+pub(crate) fn part<R: Read, S: Read, W: Write>(
+    d: Chip,
+    events: &mut R,
+    answers: &mut S,
+    out: &mut W,
+) -> Stop {
+    let mut read = [0; LARGE_BUFFER];
+    let mut measured = [0; LARGE_BUFFER];
     let mut r = input::start();
     let mut s = input::start();
     let sound = chip::sound(d);

@@ -5,10 +5,13 @@ ghost use Rattle.std.specs.Prelude.{◌≡◌};
 ghost use Rattle.row_bridge.specs.Boards.{boarded};
 ghost use Rattle.row_lines.specs.RowLines.{row_line};
 
-use libc::{STDERR_FILENO, STDIN_FILENO, STDOUT_FILENO};
 use row_bridge::Boarded;
 use rows::Shown;
 use rules::Device;
+use std::env::FillError;
+use std::io::{Read, Write};
+use std::rt::Env;
+use streams::{BUFFER, LARGE_BUFFER, write_all};
 use texts::Text;
 
 // How many devices the bytes of an argument say, one digit from 1 to 8; 0 of any others.
@@ -26,78 +29,82 @@ fn count_of(s: &[u8]) -> usize {
     (d - b'0') as usize
 }
 
+// Whether there are more arguments than the program takes.
+fn has_second<S: Env>(system: &S) -> bool {
+    !matches!(system.arg(2, &mut []), Err(FillError::NotPresent))
+}
+
 // How many devices the argument says; 0 where there is none, or more than one.
-fn argument() -> usize {
-    if os::arg_count() != 2 {
+fn argument<S: Env>(system: &S) -> usize {
+    if has_second(system) {
         return 0;
     }
-    let mut buf = io::buffer();
-    let n = os::arg(1, &mut buf);
-    if os::errno() != 0 {
-        return 0;
+    let mut buf = [0; BUFFER];
+    match system.arg(1, &mut buf) {
+        Ok(n) => count_of(&buf[..n]),
+        Err(_) => 0,
     }
-    count_of(&buf[..n])
 }
 
 // Writes what is shown of a device that there is.
-fn print_device(there: bool, x: Shown) {
+fn print_device<W: Write>(out: &mut W, there: bool, x: Shown) {
     if there {
-        console::print(STDOUT_FILENO, row_lines::device_text(x));
+        console::print(out, row_lines::device_text(x));
     }
 }
 
 // Writes what is shown of the first n devices.
-fn print_devices(n: usize, l: [Shown; 8]) {
-    print_device(0 < n, l[0]);
-    print_device(1 < n, l[1]);
-    print_device(2 < n, l[2]);
-    print_device(3 < n, l[3]);
-    print_device(4 < n, l[4]);
-    print_device(5 < n, l[5]);
-    print_device(6 < n, l[6]);
-    print_device(7 < n, l[7]);
+fn print_devices<W: Write>(out: &mut W, n: usize, l: [Shown; 8]) {
+    print_device(out, 0 < n, l[0]);
+    print_device(out, 1 < n, l[1]);
+    print_device(out, 2 < n, l[2]);
+    print_device(out, 3 < n, l[3]);
+    print_device(out, 4 < n, l[4]);
+    print_device(out, 5 < n, l[5]);
+    print_device(out, 6 < n, l[6]);
+    print_device(out, 7 < n, l[7]);
 }
 
 // Says a line to the row, and writes the answer.
-fn answer(devices: [Device; 8], n: usize, t: Text) -> Boarded
+fn answer<W: Write>(devices: [Device; 8], n: usize, t: Text, out: &mut W) -> Boarded
     ensures { result ≡ boarded devices n (row_line t) }
 {
     let r = row_bridge::event(devices, n, row_lines::event_of_line(t));
     let a = r.answer;
     let l = a.devices;
-    console::print(STDOUT_FILENO, row_lines::head_text(a));
-    print_devices(n, l);
-    io::write_all(STDOUT_FILENO, b"\n");
+    console::print(out, row_lines::head_text(a));
+    print_devices(out, n, l);
+    write_all(out, b"\n");
     r
 }
 
 // All lines, from n fresh devices. (A proved loop has to end: its turns are counted down.)
-fn answer_all(n: usize) {
-    let mut buf = io::large_buffer();
+fn answer_all<R: Read, W: Write>(n: usize, input: &mut R, out: &mut W) {
+    let mut buf = [0; LARGE_BUFFER];
     let mut r = input::start();
     let d = Device::fresh();
     let mut devices = [d, d, d, d, d, d, d, d];
     let mut turns = u64::MAX;
     while turns > 0 {
-        let m = input::next_line(r, STDIN_FILENO, &mut buf);
+        let m = input::next_line(r, input, &mut buf);
         r = m.reader;
         if !m.found {
             return;
         }
-        let a = answer(devices, n, m.text);
+        let a = answer(devices, n, m.text, out);
         devices = a.devices;
         turns -= 1;
     }
 }
 
-fn main() {
-    let n = argument();
+fn main(rt: HostRuntime) {
+    let n = argument(&rt);
     if n == 0 {
-        io::write_all(
-            STDERR_FILENO,
+        write_all(
+            &mut rt.stderr(),
             b"board: the argument is how many devices, 1 to 8\n",
         );
         return;
     }
-    answer_all(n);
+    answer_all(n, &mut rt.stdin(), &mut rt.stdout());
 }

@@ -4,8 +4,9 @@
 
 ghost use Rattle.std.specs.Prelude.{◌<◌};
 
-use libc::{STDIN_FILENO, STDOUT_FILENO};
 use rules::Device;
+use std::io::{Read, Write};
+use streams::{LARGE_BUFFER, print_decimal, write_all};
 use z8536::Z8536;
 
 // The bytes of a line so far, two digits to a byte, and whether it is for the Z8536; a longer line keeps its first 128.
@@ -57,75 +58,75 @@ fn character(n: u8) -> u8
     b'A' + (n - 10)
 }
 
-fn print_byte(x: u8) {
-    io::write_all(STDOUT_FILENO, &[character(x / 16), character(x % 16)]);
+fn print_byte<W: Write>(out: &mut W, x: u8) {
+    write_all(out, &[character(x / 16), character(x % 16)]);
 }
 
-fn print_bytes(b: &[u8]) {
+fn print_bytes<W: Write>(out: &mut W, b: &[u8]) {
     let mut i = 0;
     while i < b.len() {
-        print_byte(b[i]);
+        print_byte(out, b[i]);
         i += 1;
     }
 }
 
-fn print_first(b: &[u8], n: usize) {
+fn print_first<W: Write>(out: &mut W, b: &[u8], n: usize) {
     if n > b.len() {
         return;
     }
-    print_bytes(&b[0..n]);
+    print_bytes(out, &b[0..n]);
 }
 
-fn print_image(d: Device) {
+fn print_image<W: Write>(out: &mut W, d: Device) {
     let mut buf = [0u8; Device::IMAGE];
     image::save(d, &mut buf);
-    io::write_all(STDOUT_FILENO, b" ");
-    print_first(&buf, Device::image_len(d.version));
+    write_all(out, b" ");
+    print_first(out, &buf, Device::image_len(d.version));
 }
 
-fn print_image_z8536(z: Z8536) {
+fn print_image_z8536<W: Write>(out: &mut W, z: Z8536) {
     let mut buf = [0u8; Z8536::IMAGE];
     image::save_z8536(z, &mut buf);
-    io::write_all(STDOUT_FILENO, b" ");
-    print_bytes(&buf);
+    write_all(out, b" ");
+    print_bytes(out, &buf);
 }
 
-fn print_code(b: &[u8], n: usize) {
+fn print_code<W: Write>(out: &mut W, b: &[u8], n: usize) {
     if n > b.len() {
         return;
     }
     let r = image::restore(&b[0..n]);
-    io::print_decimal(STDOUT_FILENO, r.code as u64);
+    print_decimal(out, r.code as u64);
     if r.code == 0 {
-        print_image(r.device);
+        print_image(out, r.device);
     }
-    io::write_all(STDOUT_FILENO, b"\n");
+    write_all(out, b"\n");
 }
 
-fn print_code_z8536(b: &[u8], n: usize) {
+fn print_code_z8536<W: Write>(out: &mut W, b: &[u8], n: usize) {
     if n > b.len() {
         return;
     }
     let r = image::restore_z8536(&b[0..n]);
-    io::print_decimal(STDOUT_FILENO, r.code as u64);
+    print_decimal(out, r.code as u64);
     if r.code == 0 {
-        print_image_z8536(r.device);
+        print_image_z8536(out, r.device);
     }
-    io::write_all(STDOUT_FILENO, b"\n");
+    write_all(out, b"\n");
 }
 
-fn print_line(l: Line) {
+fn print_line<W: Write>(out: &mut W, l: Line) {
     let b = l.bytes;
     if l.z8536 {
-        print_code_z8536(&b, l.digits / 2);
+        print_code_z8536(out, &b, l.digits / 2);
     } else {
-        print_code(&b, l.digits / 2);
+        print_code(out, &b, l.digits / 2);
     }
 }
 
-fn next(l: Line, c: u8) -> Line {
+fn next<W: Write>(out: &mut W, l: Line, c: u8) -> Line {
     if c == b'\n' {
-        print_line(l);
+        print_line(out, l);
         return empty();
     }
     if c == b'Z' {
@@ -137,11 +138,11 @@ fn next(l: Line, c: u8) -> Line {
 }
 
 // The lines that end in a piece of the input; what is left is handed on.
-fn print_codes(l: Line, piece: &[u8]) -> Line {
+fn print_codes<W: Write>(out: &mut W, l: Line, piece: &[u8]) -> Line {
     let mut m = l;
     let mut i = 0;
     while i < piece.len() {
-        m = next(m, piece[i]);
+        m = next(out, m, piece[i]);
         i += 1;
     }
     m
@@ -155,15 +156,15 @@ struct Turn {
 }
 
 // Reads once, and prints what came.
-fn print_some(l: Line, text: &mut [u8]) -> Turn {
-    let n = io::read_full(STDIN_FILENO, text);
+fn print_some<R: Read, W: Write>(out: &mut W, l: Line, input: &mut R, text: &mut [u8]) -> Turn {
+    let n = streams::read_full(input, text);
     if n == 0 {
         return Turn {
             line: l,
             more: false,
         };
     }
-    let m = print_codes(l, &text[..n]);
+    let m = print_codes(out, l, &text[..n]);
     Turn {
         line: m,
         more: true,
@@ -171,12 +172,14 @@ fn print_some(l: Line, text: &mut [u8]) -> Turn {
 }
 
 // (A proved loop has to end: its turns are counted down.)
-fn main() {
-    let mut text = io::large_buffer();
+fn main(rt: HostRuntime) {
+    let mut input = rt.stdin();
+    let mut out = rt.stdout();
+    let mut text = [0; LARGE_BUFFER];
     let mut l = empty();
     let mut turns = u64::MAX;
     while turns > 0 {
-        let t = print_some(l, &mut text);
+        let t = print_some(&mut out, l, &mut input, &mut text);
         if !t.more {
             return;
         }

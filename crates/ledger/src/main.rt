@@ -2,8 +2,9 @@
 // byte at the pins while DAV is shown, and acknowledges it at its own pace; each night the device is saved and restored.
 #![tactic(auto)]
 
-use libc::STDOUT_FILENO;
 use rules::{Device, Event, Outcome};
+use std::io::Write;
+use streams::write_all;
 
 // How many codes there are, and how many beats are between two nights.
 const CODES: usize = 24;
@@ -26,12 +27,9 @@ fn code(i: usize) -> u8 {
 }
 
 // Writes a byte in hexadecimal behind a word.
-fn say(word: &[u8], b: u8) {
-    io::write_all(STDOUT_FILENO, word);
-    io::write_all(
-        STDOUT_FILENO,
-        &[texts::glyph(b / 16), texts::glyph(b % 16), b'\n'],
-    );
+fn say<W: Write>(out: &mut W, word: &[u8], b: u8) {
+    write_all(out, word);
+    write_all(out, &[texts::glyph(b / 16), texts::glyph(b % 16), b'\n']);
 }
 
 // One more of byte b, if it is a code.
@@ -68,7 +66,7 @@ fn set_up() -> Device {
 }
 
 // The host: the next code is written where D3 of 09, ORE, is 1.
-fn host(l: Ledger) -> Ledger {
+fn host<W: Write>(out: &mut W, l: Ledger) -> Ledger {
     let d = l.device;
     let i = l.next;
     if i >= CODES {
@@ -84,7 +82,7 @@ fn host(l: Ledger) -> Ledger {
     if w.answer.code != 0 {
         return l;
     }
-    say(b"written ", b);
+    say(out, b"written ", b);
     let before = l.written;
     let now = counted(before, b);
     let after = w.device;
@@ -97,7 +95,7 @@ fn host(l: Ledger) -> Ledger {
 }
 
 // The outside: ACKIN falls while DAV, at PC1, is low, and the byte at the pins is taken; the next time it rises.
-fn outside(l: Ledger) -> Ledger {
+fn outside<W: Write>(out: &mut W, l: Ledger) -> Ledger {
     let d = l.device;
     if l.low {
         let up = ask(d, Event::P, 0x00, 0x00, 0x01);
@@ -114,7 +112,7 @@ fn outside(l: Ledger) -> Ledger {
         return l;
     }
     let b = seen.answer.b;
-    say(b"left    ", b);
+    say(out, b"left    ", b);
     let before = l.left;
     let now = counted(before, b);
     let down = ask(d, Event::P, 0x00, 0x00, 0x00);
@@ -128,54 +126,60 @@ fn outside(l: Ledger) -> Ledger {
 }
 
 // One beat: the host at each, the outside at two of five.
-fn beat(l: Ledger, k: u32) -> Ledger {
-    let asked = host(l);
+fn beat<W: Write>(out: &mut W, l: Ledger, k: u32) -> Ledger {
+    let asked = host(out, l);
     if k % 5 < 2 {
-        return outside(asked);
+        return outside(out, asked);
     }
     asked
 }
 
-fn day(l: Ledger) -> Ledger {
+fn day<W: Write>(out: &mut W, l: Ledger) -> Ledger {
     let mut m = l;
     let mut k = 0;
     while k < BEATS {
-        m = beat(m, k);
+        m = beat(out, m, k);
         k += 1;
     }
     m
 }
 
 // A night: the device is saved, and the one of the next morning is restored from the bytes.
-fn night(l: Ledger) -> Ledger {
+fn night<W: Write>(out: &mut W, l: Ledger) -> Ledger {
     let d = l.device;
     let mut bytes = [0; Device::IMAGE];
     let saved = image::save(d, &mut bytes);
     let morning = image::restore(&bytes);
-    say(b"saved    ", saved);
-    say(b"restored ", morning.code);
+    say(out, b"saved    ", saved);
+    say(out, b"restored ", morning.code);
     let after = morning.device;
     Ledger { device: after, ..l }
 }
 
+fn day_and_night<W: Write>(out: &mut W, l: Ledger) -> Ledger {
+    let evening = day(out, l);
+    night(out, evening)
+}
+
 // The ledger: each code, how often it was written and how often it has left.
-fn print_code(l: Ledger, i: usize) {
+fn print_code<W: Write>(out: &mut W, l: Ledger, i: usize) {
     if i < CODES {
-        say(b"code ", code(i));
-        say(b"  written ", l.written[i]);
-        say(b"  left    ", l.left[i]);
+        say(out, b"code ", code(i));
+        say(out, b"  written ", l.written[i]);
+        say(out, b"  left    ", l.left[i]);
     }
 }
 
-fn print_ledger(l: Ledger) {
+fn print_ledger<W: Write>(out: &mut W, l: Ledger) {
     let mut i = 0;
     while i < CODES {
-        print_code(l, i);
+        print_code(out, l, i);
         i += 1;
     }
 }
 
-fn main() {
+fn main(rt: HostRuntime) {
+    let mut out = rt.stdout();
     let start = Ledger {
         device: set_up(),
         next: 0,
@@ -183,8 +187,11 @@ fn main() {
         written: [0; CODES],
         left: [0; CODES],
     };
-    let first = night(day(start));
-    let second = night(day(first));
-    let third = night(day(second));
-    print_ledger(day(day(day(third))));
+    let first = day_and_night(&mut out, start);
+    let second = day_and_night(&mut out, first);
+    let third = day_and_night(&mut out, second);
+    let fourth = day(&mut out, third);
+    let fifth = day(&mut out, fourth);
+    let last = day(&mut out, fifth);
+    print_ledger(&mut out, last);
 }

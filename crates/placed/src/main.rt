@@ -2,8 +2,9 @@
 // record back. Three lines for each event: the answer in place, the answer by value, and 1 where the two records are the same.
 #![tactic(auto)]
 
-use libc::STDOUT_FILENO;
 use rules::{Device, Event};
+use std::io::Write;
+use streams::write_all;
 
 const EVENTS: usize = 53;
 
@@ -75,16 +76,16 @@ struct Pair {
     handed: Device,
 }
 
-fn print_same(d: Device, e: Device) {
+fn print_same<W: Write>(out: &mut W, d: Device, e: Device) {
     if record::same(d, e) {
-        io::write_all(STDOUT_FILENO, b"1\n");
+        write_all(out, b"1\n");
     } else {
-        io::write_all(STDOUT_FILENO, b"0\n");
+        write_all(out, b"0\n");
     }
 }
 
 // One event of the trace, on both.
-fn step(p: Pair, i: usize) -> Pair {
+fn step<W: Write>(out: &mut W, p: Pair, i: usize) -> Pair {
     if i >= EVENTS {
         return p;
     }
@@ -101,18 +102,19 @@ fn step(p: Pair, i: usize) -> Pair {
     let h = event::event(f, e);
     let a = o.answer;
     let b = h.answer;
-    console::print(STDOUT_FILENO, texts::answer_text(a));
-    console::print(STDOUT_FILENO, texts::answer_text(b));
+    console::print(out, texts::answer_text(a));
+    console::print(out, texts::answer_text(b));
     let x = o.device;
     let y = h.device;
-    print_same(x, y);
+    print_same(out, x, y);
     Pair {
         placed: x,
         handed: y,
     }
 }
 
-fn main() {
+fn main(rt: HostRuntime) {
+    let mut out = rt.stdout();
     let d = Device::fresh();
     let mut p = Pair {
         placed: d,
@@ -120,7 +122,7 @@ fn main() {
     };
     let mut i = 0;
     while i < EVENTS {
-        p = step(p, i);
+        p = step(&mut out, p, i);
         i += 1;
     }
 }

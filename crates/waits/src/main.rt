@@ -6,35 +6,36 @@ ghost use Rattle.std.specs.Prelude.{◌≡◌};
 ghost use Rattle.lines.specs.Lines.{event_in, says_of};
 ghost use Rattle.measure.specs.Measure.{measured_of};
 
-use libc::{STDIN_FILENO, STDOUT_FILENO};
 use measure::{Measure, Measured};
 use rules::Device;
+use std::io::{Read, Write};
+use streams::{LARGE_BUFFER, print_decimal, write_all};
 use texts::Text;
 
 // Says a line to the device, and writes the answer.
-fn answer(m: Measure, d: Device, t: Text) -> Measured
+fn answer<W: Write>(m: Measure, d: Device, t: Text, out: &mut W) -> Measured
     ensures { result ≡ measured_of m d (event_in (says_of t)) }
 {
     let r = measure::event(m, d, lines::event_of_line(t));
     let a = r.answer;
-    console::print(STDOUT_FILENO, texts::answer_text(a));
+    console::print(out, texts::answer_text(a));
     r
 }
 
 // All lines, from the fresh device: the measure at the end. (A proved loop has to end: its turns are counted down.)
-fn answer_all() -> Measure {
-    let mut buf = io::large_buffer();
+fn answer_all<R: Read, W: Write>(input: &mut R, out: &mut W) -> Measure {
+    let mut buf = [0; LARGE_BUFFER];
     let mut r = input::start();
     let mut m = Measure::start();
     let mut d = Device::fresh();
     let mut turns = u64::MAX;
     while turns > 0 {
-        let n = input::next_line(r, STDIN_FILENO, &mut buf);
+        let n = input::next_line(r, input, &mut buf);
         r = n.reader;
         if !n.found {
             return m;
         }
-        let a = answer(m, d, n.text);
+        let a = answer(m, d, n.text, out);
         m = a.measure;
         d = a.device;
         turns -= 1;
@@ -42,22 +43,23 @@ fn answer_all() -> Measure {
     m
 }
 
-fn print_row(row: [u64; 4]) {
-    io::print_decimal(STDOUT_FILENO, row[0]);
-    io::write_all(STDOUT_FILENO, b" ");
-    io::print_decimal(STDOUT_FILENO, row[1]);
-    io::write_all(STDOUT_FILENO, b" ");
-    io::print_decimal(STDOUT_FILENO, row[2]);
-    io::write_all(STDOUT_FILENO, b" ");
-    io::print_decimal(STDOUT_FILENO, row[3]);
-    io::write_all(STDOUT_FILENO, b"\n");
+fn print_row<W: Write>(out: &mut W, row: [u64; 4]) {
+    print_decimal(out, row[0]);
+    write_all(out, b" ");
+    print_decimal(out, row[1]);
+    write_all(out, b" ");
+    print_decimal(out, row[2]);
+    write_all(out, b" ");
+    print_decimal(out, row[3]);
+    write_all(out, b"\n");
 }
 
-fn main() {
-    let t = measure::table(answer_all());
-    print_row(t[0]);
-    print_row(t[1]);
-    print_row(t[2]);
-    print_row(t[3]);
-    print_row(t[4]);
+fn main(rt: HostRuntime) {
+    let mut out = rt.stdout();
+    let t = measure::table(answer_all(&mut rt.stdin(), &mut out));
+    print_row(&mut out, t[0]);
+    print_row(&mut out, t[1]);
+    print_row(&mut out, t[2]);
+    print_row(&mut out, t[3]);
+    print_row(&mut out, t[4]);
 }
