@@ -80,8 +80,8 @@ fn answer_some<R: Read, W: Write>(
     answer_piece(s, &read[..n], out, answers)
 }
 
-// A proved loop has to end, and nothing says that the input does. So the loop counts its turns down, from a number that
-// no run uses up.
+// A proved loop has to end, and nothing says that the input does. So the loop counts its turns, up to a number that no run
+// reaches.
 fn answer_all<R: Read, W: Write>(
     s: Session,
     input: &mut R,
@@ -92,8 +92,7 @@ fn answer_all<R: Read, W: Write>(
     requires { text_room ≤ length out.old }
 {
     let mut t = s;
-    let mut turns = u64::MAX;
-    while turns > 0 {
+    for _ in 0..u64::MAX {
         let r = answer_some(t, input, read, out, answers);
         t = r.session;
         if !r.more {
@@ -103,7 +102,6 @@ fn answer_all<R: Read, W: Write>(
                 ok: r.ok,
             };
         }
-        turns -= 1;
     }
     Turn {
         session: t,

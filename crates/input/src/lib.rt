@@ -46,6 +46,7 @@ fn last(t: Text) -> Next
     }
 }
 
+#[tactic(auto, unfolding(crate::specs::Input::handed))]
 fn handed(r: Reader, c: Cut) -> Next
     ensures { result ≡ handed_of r c }
 {
@@ -69,6 +70,7 @@ fn handed(r: Reader, c: Cut) -> Next
 }
 
 // The next line among the bytes that were read.
+#[tactic(auto, unfolding(crate::specs::Input::line_next))]
 fn cut(r: Reader, buf: &[u8]) -> Next
     ensures { result ≡ line_next r buf.now }
 {
@@ -84,12 +86,11 @@ fn cut(r: Reader, buf: &[u8]) -> Next
     handed(r, lines::cut_from(t, &buf[..end], r.at))
 }
 
-// The rest of a line that has begun. A proved loop has to end, and nothing says that a line does: the turns are counted down,
-// from a number that no run uses up.
+// The rest of a line that has begun. A proved loop has to end, and nothing says that a line does: the turns are counted, up to a
+// number that no run reaches.
 fn read_on<R: Read>(t: Text, input: &mut R, buf: &mut [u8]) -> Next {
     let mut u = t;
-    let mut turns = u64::MAX;
-    while turns > 0 {
+    for _ in 0..u64::MAX {
         let end = streams::read(input, buf);
         if end == 0 {
             return last(u);
@@ -104,7 +105,6 @@ fn read_on<R: Read>(t: Text, input: &mut R, buf: &mut [u8]) -> Next {
             return n;
         }
         u = n.text;
-        turns -= 1;
     }
     last(u)
 }
