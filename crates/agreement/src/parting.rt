@@ -116,10 +116,8 @@ fn print_field<W: Write>(out: &mut W, place: usize, differs: bool) {
 
 // The fields that differ, by name.
 fn print_fields<W: Write>(out: &mut W, differs: [bool; FIELDS]) {
-    let mut i = 0;
-    while i < FIELDS {
+    for i in 0..FIELDS {
         print_field(out, i, differs[i]);
-        i += 1;
     }
 }
 

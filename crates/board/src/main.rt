@@ -78,14 +78,13 @@ fn answer<W: Write>(devices: [Device; 8], n: usize, t: Text, out: &mut W) -> Boa
     r
 }
 
-// All lines, from n fresh devices. (A proved loop has to end: its turns are counted down.)
+// All lines, from n fresh devices. (A proved loop has to end: its turns are counted.)
 fn answer_all<R: Read, W: Write>(n: usize, input: &mut R, out: &mut W) {
     let mut buf = [0; LARGE_BUFFER];
     let mut r = input::start();
     let d = Device::fresh();
     let mut devices = [d, d, d, d, d, d, d, d];
-    let mut turns = u64::MAX;
-    while turns > 0 {
+    for _ in 0..u64::MAX {
         let m = input::next_line(r, input, &mut buf);
         r = m.reader;
         if !m.found {
@@ -93,7 +92,6 @@ fn answer_all<R: Read, W: Write>(n: usize, input: &mut R, out: &mut W) {
         }
         let a = answer(devices, n, m.text, out);
         devices = a.devices;
-        turns -= 1;
     }
 }
 

@@ -28,7 +28,7 @@ fn answer<W: Write>(d: Ctc, t: Text, answers: &mut W) -> CtcEnded
 }
 
 // Answers the lines of an input as they arrive, from a device on, as long as the answers can be written. (A proved loop has to end, and
-// nothing says that the input does: its turns are counted down, from a number that no run uses up.)
+// nothing says that the input does: its turns are counted, up to a number that no run reaches.)
 pub fn run<R: Read, W: Write>(d: Ctc, trace: &mut R, answers: &mut W) -> CtcEnded {
     let mut buf = [0; LARGE_BUFFER];
     let mut r = input::start();
@@ -36,8 +36,7 @@ pub fn run<R: Read, W: Write>(d: Ctc, trace: &mut R, answers: &mut W) -> CtcEnde
         device: d,
         ok: true,
     };
-    let mut turns = u64::MAX;
-    while turns > 0 {
+    for _ in 0..u64::MAX {
         let n = input::next_line(r, trace, &mut buf);
         r = n.reader;
         if !n.found {
@@ -47,7 +46,6 @@ pub fn run<R: Read, W: Write>(d: Ctc, trace: &mut R, answers: &mut W) -> CtcEnde
         if !e.ok {
             return e;
         }
-        turns -= 1;
     }
     e
 }

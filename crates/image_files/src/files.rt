@@ -209,10 +209,8 @@ fn beside(path: &[u8], turn: u32, name: &mut [u8]) -> usize
         return 0;
     }
     let n = path.len() + 7;
-    let mut i = 0;
-    while i < n {
+    for i in 0..n {
         name[i] = byte_beside(path, turn, i);
-        i += 1;
     }
     n
 }
@@ -309,16 +307,10 @@ fn write_out<F: Write + OpenFile>(file: &mut F, image: &[u8]) -> io::Result<()> 
 fn folder_len(path: &[u8]) -> usize
     ensures { IsPrefixLen result path.now }
 {
-    let mut n = 0;
-    let mut i = 0;
-    while i < path.len() {
-        let stroke = path[i] == b'/';
-        i += 1;
-        if stroke {
-            n = i;
-        }
+    match path.iter().rposition(|b| *b == b'/') {
+        Some(stroke) => stroke + 1,
+        None => 0,
     }
-    n
 }
 
 fn folder_out<F: Files>(files: &F, folder: &[u8]) -> io::Result<()> {

@@ -23,10 +23,8 @@ pub struct Loaded {
 }
 
 fn show_all<W: Write>(d: Device, out: &mut W) {
-    let mut n = 0;
-    while n < words::LINES {
+    for n in 0..words::LINES {
         print(out, words::line(d, n));
-        n += 1;
     }
 }
 
@@ -40,10 +38,8 @@ pub fn show_device<W: Write>(c: Chip, out: &mut W) {
 }
 
 fn show_ctc<W: Write>(d: Ctc, out: &mut W) {
-    let mut n = 0;
-    while n < ctc_words::LINES {
+    for n in 0..ctc_words::LINES {
         print(out, ctc_words::line(d, n));
-        n += 1;
     }
 }
 

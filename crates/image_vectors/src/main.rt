@@ -63,10 +63,8 @@ fn print_byte<W: Write>(out: &mut W, x: u8) {
 }
 
 fn print_bytes<W: Write>(out: &mut W, b: &[u8]) {
-    let mut i = 0;
-    while i < b.len() {
-        print_byte(out, b[i]);
-        i += 1;
+    for x in b {
+        print_byte(out, *x);
     }
 }
 
@@ -140,10 +138,8 @@ fn next<W: Write>(out: &mut W, l: Line, c: u8) -> Line {
 // The lines that end in a piece of the input; what is left is handed on.
 fn print_codes<W: Write>(out: &mut W, l: Line, piece: &[u8]) -> Line {
     let mut m = l;
-    let mut i = 0;
-    while i < piece.len() {
-        m = next(out, m, piece[i]);
-        i += 1;
+    for c in piece {
+        m = next(out, m, *c);
     }
     m
 }
@@ -171,19 +167,17 @@ fn print_some<R: Read, W: Write>(out: &mut W, l: Line, input: &mut R, text: &mut
     }
 }
 
-// (A proved loop has to end: its turns are counted down.)
+// (A proved loop has to end: its turns are counted.)
 fn main(rt: HostRuntime) {
     let mut input = rt.stdin();
     let mut out = rt.stdout();
     let mut text = [0; LARGE_BUFFER];
     let mut l = empty();
-    let mut turns = u64::MAX;
-    while turns > 0 {
+    for _ in 0..u64::MAX {
         let t = print_some(&mut out, l, &mut input, &mut text);
         if !t.more {
             return;
         }
         l = t.line;
-        turns -= 1;
     }
 }

@@ -136,10 +136,8 @@ fn beat<W: Write>(out: &mut W, l: Ledger, k: u32) -> Ledger {
 
 fn day<W: Write>(out: &mut W, l: Ledger) -> Ledger {
     let mut m = l;
-    let mut k = 0;
-    while k < BEATS {
+    for k in 0..BEATS {
         m = beat(out, m, k);
-        k += 1;
     }
     m
 }
@@ -171,10 +169,8 @@ fn print_code<W: Write>(out: &mut W, l: Ledger, i: usize) {
 }
 
 fn print_ledger<W: Write>(out: &mut W, l: Ledger) {
-    let mut i = 0;
-    while i < CODES {
+    for i in 0..CODES {
         print_code(out, l, i);
-        i += 1;
     }
 }
 

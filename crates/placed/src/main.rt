@@ -120,9 +120,7 @@ fn main(rt: HostRuntime) {
         placed: d,
         handed: d,
     };
-    let mut i = 0;
-    while i < EVENTS {
+    for i in 0..EVENTS {
         p = step(&mut out, p, i);
-        i += 1;
     }
 }

@@ -22,14 +22,13 @@ fn answer<W: Write>(m: Measure, d: Device, t: Text, out: &mut W) -> Measured
     r
 }
 
-// All lines, from the fresh device: the measure at the end. (A proved loop has to end: its turns are counted down.)
+// All lines, from the fresh device: the measure at the end. (A proved loop has to end: its turns are counted.)
 fn answer_all<R: Read, W: Write>(input: &mut R, out: &mut W) -> Measure {
     let mut buf = [0; LARGE_BUFFER];
     let mut r = input::start();
     let mut m = Measure::start();
     let mut d = Device::fresh();
-    let mut turns = u64::MAX;
-    while turns > 0 {
+    for _ in 0..u64::MAX {
         let n = input::next_line(r, input, &mut buf);
         r = n.reader;
         if !n.found {
@@ -38,7 +37,6 @@ fn answer_all<R: Read, W: Write>(input: &mut R, out: &mut W) -> Measure {
         let a = answer(m, d, n.text, out);
         m = a.measure;
         d = a.device;
-        turns -= 1;
     }
     m
 }
