@@ -118,6 +118,7 @@ pub struct Ended {
 }
 
 // "the last line feed may be missing": answers a last line that has none.
+#[tactic(auto, unfolding(session::specs::Sessions::finished_by))]
 fn answer_last<W: Write>(s: Session, answers: &mut W) -> Ended
     ensures { result.device ≡ device_last s }
 {
