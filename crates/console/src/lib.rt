@@ -4,7 +4,8 @@
 ghost use Rattle.std.specs.Prelude.{true, false, ◌≡◌, ◌≤◌, ◌<◌, length, take};
 ghost use Rattle.std.specs.Io.KnownBytes.{Appends};
 ghost use Rattle.texts.specs.Kept.{text_room};
-ghost use Rattle.session.specs.Sessions.{device_last};
+ghost use Rattle.session.specs.Sessions.{device_last, after_of, answers_in, answers_last};
+ghost use Rattle.console.specs.Console.{Answered, Printed};
 
 use chip::Chip;
 use session::Session;
@@ -36,6 +37,8 @@ struct Turn {
 // Answers the lines of a piece, and writes the answers out whenever the buffer may be full, and at the end of the piece.
 fn answer_piece<W: Write>(s: Session, piece: &[u8], out: &mut [u8], answers: &mut W) -> Turn
     requires { text_room ≤ length out.old }
+    ensures goes_on { result.more ≡ true → result.ok ≡ true }
+    ensures answers { result.ok ≡ true → (result.session ≡ after_of s piece.now) × Appends (W.contents answers.old) (W.contents answers.new) (answers_in s piece.now) }
 {
     let mut t = s;
     let mut at = 0;
@@ -68,6 +71,8 @@ fn answer_some<R: Read, W: Write>(
     answers: &mut W,
 ) -> Turn
     requires { text_room ≤ length out.old }
+    ensures goes_on { result.more ≡ true → result.ok ≡ true }
+    ensures answers { result.ok ≡ true → Answered s result.session (R.remaining input.old) (R.remaining input.new) (W.contents answers.old) (W.contents answers.new) }
 {
     let n = streams::read(input, read);
     if n == 0 {
@@ -90,6 +95,7 @@ fn answer_all<R: Read, W: Write>(
     answers: &mut W,
 ) -> Turn
     requires { text_room ≤ length out.old }
+    ensures { result.ok ≡ true → Answered s result.session (R.remaining input.old) (R.remaining input.new) (W.contents answers.old) (W.contents answers.new) }
 {
     let mut t = s;
     for _ in 0..u64::MAX {
@@ -120,7 +126,8 @@ pub struct Ended {
 // "the last line feed may be missing": answers a last line that has none.
 #[tactic(auto, unfolding(session::specs::Sessions::finished_by))]
 fn answer_last<W: Write>(s: Session, answers: &mut W) -> Ended
-    ensures { result.device ≡ device_last s }
+    ensures device { result.device ≡ device_last s }
+    ensures answers { result.ok ≡ true → Appends (W.contents answers.old) (W.contents answers.new) (answers_last s) }
 {
     let mut out = [0; BUFFER];
     let a = session::finish(s, &mut out);
@@ -131,7 +138,9 @@ fn answer_last<W: Write>(s: Session, answers: &mut W) -> Ended
 }
 
 // Answers the lines of an input as they arrive, from a device on.
-pub fn run<R: Read, W: Write>(d: Chip, input: &mut R, answers: &mut W) -> Ended {
+pub fn run<R: Read, W: Write>(d: Chip, input: &mut R, answers: &mut W) -> Ended
+    ensures { result.ok ≡ true → Printed d result.device (R.remaining input.old) (R.remaining input.new) (W.contents answers.old) (W.contents answers.new) }
+{
     let mut read = [0; LARGE_BUFFER];
     let mut out = [0; LARGE_BUFFER];
     let t = answer_all(session::start(d), input, &mut read, &mut out, answers);

@@ -1,13 +1,36 @@
--- Each turn takes the place in the piece on.
+-- Each turn takes the place in the piece on, and says the bytes up to it.
 -- Assumes nothing.
-use Rattle.std.proofs.Common.{ap}
+use Rattle.std.proofs.Common.{ap, sym, subst, rules}
 use native.Mathlib.Omega.{arith}
+use Rattle.std.specs.Io.KnownBytes.{Appends}
 use Rattle.session.proofs.Feeding.{feeds-on}
 use Rattle.session.specs.declared.Fed.{Fed}
+use Rattle.session.specs.Sessions.{answers_in}
+use Rattle.console.proofs.Said.{none-after, none-answered, appends-none, said-short, said-after, said-wrote}
 use Rattle.console.proofs.answer_piece.Goals as goal
+
+pub loop-at-init : goal.loop-at-init
+loop-at-init g c =
+    let u = g.W.Write.contents c.args.answers.now in
+    (c.requires, omega arith, sym (none-after c.args.s), subst (Appends u u) (sym (none-answered c.args.s)) (appends-none u))
 
 pub loop-at-smaller : goal.loop-at-smaller
 loop-at-smaller g c =
     let n = ap (λ (f : Fed). f.next) c.feed-f.ensures.value in
-    let m = feeds-on c.loop-at.t c.args.piece.now c.loop-at.at c.loop-at.out c.loop-at.invariant c.loop-at-test.true in
+    let m = feeds-on c.loop-at.t c.args.piece.now c.loop-at.at c.loop-at.out c.loop-at.invariant.0 c.loop-at-test.true in
     omega (arith, n, m)
+
+pub loop-at-preserved : goal.loop-at-preserved
+loop-at-preserved g c =
+    let l = c.loop-at in
+    let i = l.invariant in
+    let f = c.feed-f in
+    let u = g.W.Write.contents c.args.answers.now in
+    let v = g.W.Write.contents l.answers in
+    let w = g.W.Write.contents c.write_all.new.out in
+    let writes = c.write_all.ensures c.if-not-write_all.false in (
+      search rules,
+      said-short c.args.s l.t c.args.piece.now l.out f.new.out l.at f.result u v w i.1 i.2 i.3 f.ensures.value f.ensures.out_after writes,
+      said-after c.args.s l.t c.args.piece.now l.out f.new.out l.at f.result u v w i.1 i.2 i.3 f.ensures.value f.ensures.out_after writes,
+      said-wrote c.args.s l.t c.args.piece.now l.out f.new.out l.at f.result u v w i.1 i.2 i.3 f.ensures.value f.ensures.out_after writes,
+    )
