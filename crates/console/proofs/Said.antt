@@ -1,17 +1,25 @@
 -- Bytes said to a session one piece after the other, and the answers to them written one after the other.
 -- Assumes nothing.
-use Rattle.std.proofs.Common.{Bool, true, false, not, ◌&&◌, ℕ, ◌+◌, ◌≤◌, ◌≡◌, refl, sym, ap, subst, ◌∙◌, List, [], ◌++◌, length, take, drop, Option, None, Some}
+use Rattle.std.proofs.Common.{Bool, if◌then◌else◌, ◌==◌, ◌∷◌, true, false, not, ◌&&◌, ℕ, ◌+◌, ◌≤◌, ◌≡◌, refl, sym, ap, subst, ◌∙◌, List, [], ◌++◌, length, take, drop, Option, None, Some}
+use native.Mathlib.Nat.{zero-add}
 use native.Mathlib.Omega.{arith}
 use Rattle.std.proofs.lemmas.Bool.{false≢true, true≢false}
 use Rattle.std.proofs.lemmas.List.{take-append-drop}
 use Rattle.std.proofs.Math.Seq.{take-append_seam}
 use mathlib.Core.List.{append-nil, append_assoc}
 use lib.ListN.{length-append, length-drop}
-use lib.Seq.{take-add}
+use lib.Seq.{take-add, take-length}
+use borrow.Author.Tests.{le-leb}
 use Rattle.std.specs.Io.KnownBytes.{Appends, Consumes}
 use Rattle.session.specs.declared.Fed.{Fed}
 use Rattle.session.specs.declared.Session.{Session}
-use Rattle.lines.specs.Pieces.{said_in, kept_after, said_last}
+use Rattle.basics.specs.Buffer.{fits, laid_of}
+use Rattle.chip.specs.declared.Chip.{Chip}
+use Rattle.texts.specs.Answers.{answer_text}
+use Rattle.texts.specs.Kept.{text_room}
+use Rattle.texts.proofs.Printed.{answer-short}
+use Rattle.lines.specs.Lines.{says_of}
+use Rattle.lines.specs.Pieces.{said_in, kept_after, said_last, input_of}
 use Rattle.session.specs.Sessions.{answer_bytes, device_after, start_of, after_of, answers_in, answers_last, read_in, bytes_read, fed_by, finished_by, answered, outcome_by, printed_for, written_by}
 use Rattle.console.specs.Console.{Answered}
 use Rattle.session.proofs.Laws.{after-append, answers-append, written}
@@ -149,7 +157,6 @@ unfolding answers_last said_last answer_bytes
 last-short s = by_test (s.text.len == 0)
   where
     by_test : (b : Bool) → length (answer_bytes s.device (if b then [] else (says_of s.text ∷ []))) ≤ text_room
-    unfolding answer_bytes
     by_test true = omega arith
     by_test false =
         let a = (outcome_by s.device s.text).answer in
@@ -161,11 +168,12 @@ pub last-laid : (s : Session) (out : List ℕ) → text_room ≤ length out
 unfolding finished_by laid_of fits
 last-laid s out h =
     simp (le-leb (0 + length (answers_last s)) (length out) (omega (arith, last-short s)))
-    (ap (λ (l : List ℕ). take (length (answers_last s)) (l ++ drop (length (answers_last s)) out)) (take-length (answers_last s))
+    (ap (λ (n : ℕ). take (length (answers_last s)) (take (length (answers_last s)) (answers_last s) ++ drop n out)) (zero-add (length (answers_last s)))
+    ∙ ap (λ (l : List ℕ). take (length (answers_last s)) (l ++ drop (length (answers_last s)) out)) (take-length (answers_last s))
     ∙ take-append_seam (answers_last s) (drop (length (answers_last s)) out))
 
 -- what is printed for an input in one piece
 pub printed-is : (d : Chip) (p : List ℕ) → printed_for d p ≡ answers_in (start_of d) p ++ answers_last (after_of (start_of d) p)
-unfolding written_by
+unfolding written_by input_of
 printed-is d p =
     ap (printed_for d) (sym (append-nil p)) ∙ sym (written d (p ∷ []))

@@ -21,7 +21,7 @@ loop-preserved g c =
     let ok = c.answer_some-r.ensures.goes_on (not-not c.answer_some-r.result.more c.if-not-r.false) in (
       search rules,
       answered-more c.args.s c.loop.t c.answer_some-r.result.session
-      (g.R.Read.remaining c.args.input.now) (g.R.Read.remaining c.loop.input) (g.R.Read.remaining c.answer_some-r.new.input)
-      (g.W.Write.contents c.args.answers.now) (g.W.Write.contents c.loop.answers) (g.W.Write.contents c.answer_some-r.new.answers)
-      c.loop.invariant.1 (c.answer_some-r.ensures.answers ok),
+          (g.R.Read.remaining c.args.input.now) (g.R.Read.remaining c.loop.input) (g.R.Read.remaining c.answer_some-r.new.input)
+          (g.W.Write.contents c.args.answers.now) (g.W.Write.contents c.loop.answers) (g.W.Write.contents c.answer_some-r.new.answers)
+          c.loop.invariant.1 (c.answer_some-r.ensures.answers ok),
     )

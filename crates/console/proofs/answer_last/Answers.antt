@@ -1,8 +1,9 @@
 -- The answer that is laid into the buffer is written.
 -- Assumes nothing.
-use Rattle.std.proofs.Common.{ap, subst, rules, ◌∙◌, List, ℕ, take, length}
+use Rattle.std.proofs.Common.{ap, subst, rules, ◌∙◌, List, ℕ, take, replicate}
 use Rattle.std.specs.Io.KnownBytes.{Appends}
 use Rattle.session.specs.declared.Told.{Told}
+use Rattle.session.specs.Sessions.{finished_by}
 use Rattle.console.proofs.Said.{last-laid}
 use Rattle.console.proofs.answer_last.Goals as goal
 
@@ -10,5 +11,5 @@ pub returns-clause-answers : goal.returns-clause-answers
 returns-clause-answers g c =
     let e =
     ap (λ (n : ℕ). take n c.finish-a.new.out) (ap (λ (x : Told). x.len) c.finish-a.ensures.value)
-    ∙ ap (λ (l : List ℕ). take _ l) c.finish-a.ensures.out_after ∙ last-laid c.args.s _ (search rules) in
+    ∙ ap (λ (l : List ℕ). take (finished_by c.args.s (replicate 4096 0)).len l) c.finish-a.ensures.out_after ∙ last-laid c.args.s (replicate 4096 0) (search rules) in
     λ ok. subst (Appends (g.W.Write.contents c.args.answers.now) (g.W.Write.contents c.write_all-ok.new.out)) e (c.write_all-ok.ensures ok)

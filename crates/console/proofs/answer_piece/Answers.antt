@@ -5,7 +5,6 @@ use native.Mathlib.Omega.{arith}
 use Rattle.std.specs.Io.KnownBytes.{Appends}
 use Rattle.session.proofs.Feeding.{feeds-on}
 use Rattle.session.specs.declared.Fed.{Fed}
-use Rattle.session.specs.Sessions.{answers_in}
 use Rattle.console.proofs.Said.{none-after, none-answered, appends-none, said-short, said-after, said-wrote}
 use Rattle.console.proofs.answer_piece.Goals as goal
 

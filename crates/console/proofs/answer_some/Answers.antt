@@ -1,6 +1,6 @@
 -- At the end of the input nothing is read.
 -- Assumes nothing.
-use Rattle.std.proofs.Common.{ap, subst, List, ℕ, take, [], refl}
+use Rattle.std.proofs.Common.{subst, ℕ, take}
 use Rattle.std.specs.Io.KnownBytes.{Consumes}
 use Rattle.console.proofs.Said.{answered-none}
 use Rattle.console.proofs.answer_some.Goals as goal
