@@ -24,6 +24,7 @@ pub(crate) struct Stop {
 }
 
 // Says a line of TRACE to the device, which may be known to be sound, and compares the answer with a line of BOARD.
+#[tactic(auto, unfolding(crate::specs::Turns::beside_of))]
 fn beside(sound: bool, d: Chip, event: Text, board: Text) -> Turn
     requires { sound ≡ true → sound_chip d ≡ true }
     ensures { result ≡ beside_of d event board }

@@ -1,0 +1,49 @@
+-- What a line does is what its definition says, and where it does not agree nothing is passed over.
+-- Assumes nothing.
+use Rattle.std.proofs.Common.{ℕ, ◌+◌, ◌-◌, ◌<◌, ◌≡◌, sym, ap, ◌∙◌, length, take, drop}
+use native.Mathlib.Omega.{arith}
+use borrow.Author.Tests.{ltb-true}
+use lib.ListN.{length-drop}
+use Rattle.basics.proofs.Tests.{both}
+use Rattle.chip.specs.declared.OutcomeChip.{OutcomeChip}
+use Rattle.chip.specs.Chips.{event_chip}
+use Rattle.chip.proofs.Kept.{known-chip}
+use Rattle.lines.specs.Lines.{event_in, line_of}
+use Rattle.lines.specs.Pieces.{feed_at}
+use Rattle.bench_lines.specs.Agreed.{agreed_to}
+use Rattle.agreement.proofs.Onward.{told, went, stays, not-gone}
+use Rattle.agreement.proofs.parting.onward.Goals as goal
+
+pub returns-then-next-a : goal.returns-then-next-a
+returns-then-next-a c =
+    let a = c.args.a in
+    let read = c.args.read.now in
+    let measured = c.args.measured.now in
+    let m = drop a.event read in
+    let long : c.line_end-e.result - a.event ≡ feed_at m = omega (arith, c.line_end-e.ensures) in
+    let o : c.known-o.result ≡ told a read measured =
+    c.known-o.ensures ∙ known-chip _ a.device _ c.requires
+    ∙ ap (event_chip a.device) (c.event_of.ensures ∙ ap (λ (n : ℕ). event_in (line_of (take n m))) long) in
+    let n = c.agreed_to-next.ensures ∙ ap (λ (x : OutcomeChip). agreed_to x.answer measured a.board) o in
+    let tests = both _ _ c.if-e-read.true in
+    let inside : c.line_end-e.result < length read = ltb-true _ _ tests.0 in
+    let e = ap (λ (k : ℕ). k + 1) c.line_end-e.ensures in
+    (λ j. record { device = (o j).device; event = e j; board = n j; agreed = a.agreed + 1 })
+    ∙ went a read measured (omega (arith, inside, c.line_end-e.ensures, length-drop a.event read)) tests.1 (λ h. c.if-next-a.true (n ∙ h))
+
+pub returns-else-next-a : goal.returns-else-next-a
+returns-else-next-a c =
+    let a = c.args.a in
+    let read = c.args.read.now in
+    let measured = c.args.measured.now in
+    let m = drop a.event read in
+    let long : c.line_end-e.result - a.event ≡ feed_at m = omega (arith, c.line_end-e.ensures) in
+    let o : c.known-o.result ≡ told a read measured =
+    c.known-o.ensures ∙ known-chip _ a.device _ c.requires
+    ∙ ap (event_chip a.device) (c.event_of.ensures ∙ ap (λ (n : ℕ). event_in (line_of (take n m))) long) in
+    let n = c.agreed_to-next.ensures ∙ ap (λ (x : OutcomeChip). agreed_to x.answer measured a.board) o in
+    stays a read measured (sym n ∙ c.if-next-a.false)
+
+pub returns-else-e-read : goal.returns-else-e-read
+returns-else-e-read c =
+    not-gone c.args.a c.args.read.now c.args.measured.now c.line_end-e.result c.line_end-e.ensures c.if-e-read.false
