@@ -1,7 +1,6 @@
--- An unsound record is not saved.
+-- A record that is saved is sound.
 -- Assumes nothing.
-use Rattle.std.proofs.Common.{ℕ, Bool, true, false, not, if◌then◌else◌, ◌≡◌}
-use Rattle.std.proofs.lemmas.Bool.{true≢false}
+use Rattle.std.proofs.Common.{ℕ, Bool, true, false, not, if◌then◌else◌, ◌≡◌, refl}
 use native.Mathlib.Omega.{arith}
 use Rattle.rules.specs.Sound.{sound_of}
 use Rattle.z8536.specs.Z8536.{sound_z8536}
@@ -15,18 +14,22 @@ use Rattle.ctc_rules.specs.Sound.{sound_ctc}
 use Rattle.ctc_image.specs.Image.{save_code_ctc}
 use Rattle.ctc_image.proofs.Codes.{save-9}
 
-pub no-save : (d : Chip) (n : ℕ) → sound_chip d ≡ false → save_code_chip d n ≡ 0 → ⊥
+pub saved_sound : (d : Chip) (n : ℕ) → save_code_chip d n ≡ 0 → sound_chip d ≡ true
 unfolding sound_chip save_code_chip save_code save_code_z8536
-no-save d n u e = by-kind d.z8536 u e
+saved_sound d n e = by-kind d.z8536 e
   where
-    never : (b : Bool) (m : ℕ) → b ≡ false → (if not b then 9 else m) ≡ 0 → ⊥
-    never true m h k = absurd (true≢false h)
-    never false m h k = absurd (omega arith)
+    sure : (b : Bool) (m : ℕ) → (if not b then 9 else m) ≡ 0 → b ≡ true
+    sure true m k = refl
+    sure false m k = absurd (omega arith)
 
-    by-kind : (z : Bool) → (if z then sound_z8536 d.device else sound_of (core_of d)) ≡ false
-        → (if z then save_code_z8536 d.device n else save_code (core_of d) n) ≡ 0 → ⊥
-    by-kind true h k = never (sound_z8536 d.device) _ h k
-    by-kind false h k = never (sound_of (core_of d)) _ h k
+    by-kind : (z : Bool) → (if z then save_code_z8536 d.device n else save_code (core_of d) n) ≡ 0
+        → (if z then sound_z8536 d.device else sound_of (core_of d)) ≡ true
+    by-kind true k = sure (sound_z8536 d.device) _ k
+    by-kind false k = sure (sound_of (core_of d)) _ k
 
-pub no-save-ctc : (d : Ctc) (n : ℕ) → sound_ctc d ≡ false → save_code_ctc d n ≡ 0 → ⊥
-no-save-ctc d n u e = let nine = (save-9 d n).1 u in absurd (omega (arith, e, nine))
+pub saved_sound_ctc : (d : Ctc) (n : ℕ) → save_code_ctc d n ≡ 0 → sound_ctc d ≡ true
+saved_sound_ctc d n e = by-sound (sound_ctc d) refl
+  where
+    by-sound : (b : Bool) → sound_ctc d ≡ b → b ≡ true
+    by-sound true h = refl
+    by-sound false h = let nine = (save-9 d n).1 h in absurd (omega (arith, e, nine))

@@ -382,6 +382,7 @@ fn image_part(d: Chip, buf: &[u8]) -> usize
 }
 
 // Saves a device to an image file. Answers whether it is saved; where not, the file is as it was, and a line says why.
+#[tactic(auto, using(crate::proofs::Unsaved::saved_sound))]
 pub fn keep<F: Files, W: Write>(files: &F, path: &[u8], d: Chip, report: &mut W) -> bool
     ensures { sound_chip d ≡ false → result ≡ false }
 {
@@ -400,6 +401,7 @@ pub fn keep<F: Files, W: Write>(files: &F, path: &[u8], d: Chip, report: &mut W)
 }
 
 // Saves a CTC likewise.
+#[tactic(auto, using(crate::proofs::Unsaved::saved_sound_ctc))]
 pub fn keep_ctc<F: Files, W: Write>(files: &F, path: &[u8], d: Ctc, report: &mut W) -> bool
     ensures { sound_ctc d ≡ false → result ≡ false }
 {
