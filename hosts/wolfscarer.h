@@ -1,5 +1,5 @@
-/* The proved model of the Z8036, the Z8536 and the Z80 CTC, for a host on x86-64 Linux. `rt staticlib host` makes
- * target/staticlib/libhost.a; crates/host/src/lib.rt has what each call promises, and is proved to keep it.
+/* The proved model of the Z8036, the Z8536 and the Z80 CTC, for a host on x86-64 Linux. `rt lib` in crates/host_c makes the library,
+ * crates/host_c/out/libhost_c.a, which a host links as libhost.a; crates/host/src/lib.rt has what each call promises, and is proved to keep it.
  *
  * A device at rest is its image, the state, in a buffer that the host owns. To save the device is to write those bytes to a file; to go on
  * with it is to read them back. A call works on the state where it stands, keeps nothing of its own and allocates nothing.
