@@ -10,6 +10,7 @@ use borrow.Author.Tests.{eqb-true, eqb-false, le-leb}
 use Rattle.rules.specs.declared.Device.{Device}
 use Rattle.rules.specs.declared.Event.{Event}
 use Rattle.rules.specs.declared.Effect.{Effect}
+use Rattle.rules.specs.declared.Answer.{Answer}
 use Rattle.rules.specs.declared.Outcome.{Outcome}
 use Rattle.rules.specs.declared.Kind.TheVariants.{Data}
 use Rattle.basics.specs.Signs.{within}
@@ -102,11 +103,11 @@ module _ (p : ℕ) (d : Device) (e : Event) (taken : is_accepted d e ≡ true) w
   -- the record and the value, where the effect is known
   pub after-by : (r : Effect) → effect_of d e ≡ r → after d e ≡ relined r.device
   unfolding outcome_of relit
-  after-by r q = ap (λ (o : Outcome). o.device) outcome ∙ ap (λ (r : Effect). relined r.device) q
+  after-by r q = ap (λ (o : Outcome Device Answer). o.device) outcome ∙ ap (λ (r : Effect). relined r.device) q
 
   pub value-by : (r : Effect) → effect_of d e ≡ r → (event_of d e).answer.value ≡ r.value
   unfolding outcome_of answer_of relit
-  value-by r q = ap (λ (o : Outcome). o.answer.value) outcome ∙ ap (λ (r : Effect). r.value) q
+  value-by r q = ap (λ (o : Outcome Device Answer). o.answer.value) outcome ∙ ap (λ (r : Effect). r.value) q
 
   pub rests-by : (r : Effect) → effect_of d e ≡ r → Alike d r.device → transfer_at r.device p ≡ transfer_at d p → Quiet p d e
       → Turn p d e

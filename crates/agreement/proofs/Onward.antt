@@ -11,7 +11,9 @@ use borrow.Author.Tests.{lt-ltb, le-ltb, eq-eqb, ne_eqb, ltb-true, ltb-false}
 use lib.Dec.{ltb}
 use lib.ListN.{length, take, drop, length-drop}
 use Rattle.basics.proofs.Tests.{triple}
-use Rattle.chip.specs.declared.OutcomeChip.{OutcomeChip}
+use Rattle.chip.specs.declared.Chip.{Chip}
+use Rattle.rules.specs.declared.Answer.{Answer}
+use Rattle.rules.specs.declared.Outcome.{Outcome}
 use Rattle.chip.specs.Chips.{event_chip}
 use Rattle.chip.proofs.Kept.{Good, event-good}
 use Rattle.lines.specs.Lines.{event_in, line_of}
@@ -25,7 +27,7 @@ module _ (a : Abreast) (read measured : List ℕ) where
   abbrev pub rest : List ℕ
   rest = drop a.event read
 
-  abbrev pub told : OutcomeChip
+  abbrev pub told : Outcome Chip Answer
   told = event_chip a.device (event_in (line_of (take (feed_at rest) rest)))
 
   abbrev pub after : ℕ

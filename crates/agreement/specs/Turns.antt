@@ -3,7 +3,8 @@
 -- Assumes nothing.
 use Rattle.std.specs.Prelude.{ℕ, ◌+◌, ◌&&◌, not, List, ltb, length, take, drop, if◌then◌else◌, ◌==◌}
 use Rattle.chip.specs.declared.Chip.{Chip}
-use Rattle.chip.specs.declared.OutcomeChip.{OutcomeChip}
+use Rattle.rules.specs.declared.Answer.{Answer}
+use Rattle.rules.specs.declared.Outcome.{Outcome}
 use Rattle.chip.specs.Chips.{event_chip}
 use Rattle.lines.specs.Lines.{says_of, event_in, line_of}
 use Rattle.lines.specs.Pieces.{feed_at}
@@ -14,7 +15,7 @@ use Rattle.agreement.specs.declared.parting.Abreast.{Abreast}
 use Rattle.agreement.specs.declared.Turn.{Turn}
 
 -- what the event of a line does
-abbrev pub outcome_said : Chip → Text → OutcomeChip
+abbrev pub outcome_said : Chip → Text → Outcome Chip Answer
 outcome_said d event = event_chip d (event_in (says_of event))
 
 -- the device after it, the model's answer, and that answer beside the board's line

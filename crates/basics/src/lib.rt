@@ -1,6 +1,10 @@
 // Bytes of bits, words of bytes, and bytes laid into a buffer.
 #![tactic(auto)]
 
+mod place;
+
+pub use place::Place;
+
 ghost use Rattle.std.specs.Prelude.{◌≡◌, cond, ◌+◌, ◌*◌, ◌≤◌, length, get_or};
 ghost use Rattle.basics.specs.Byte.{byte_in, with_byte};
 ghost use Rattle.basics.specs.Buffer.{fits, laid_of};
@@ -38,10 +42,7 @@ pub fn with_byte(high: bool, n: u16, b: u8) -> u16
 pub fn byte_at(b: &[u8], i: usize) -> u8
     ensures { result ≡ get_or b.now i 0 }
 {
-    if i < b.len() {
-        return b[i];
-    }
-    0
+    b.get(i).copied().unwrap_or(0)
 }
 
 // The word of the bytes at two places.
@@ -62,10 +63,6 @@ pub fn lay(buf: &mut [u8], at: usize, src: &[u8]) -> usize
     if buf.len() - n < at {
         return at;
     }
-    let mut i = 0;
-    while i < n {
-        buf[at + i] = src[i];
-        i += 1;
-    }
+    buf[at..at + n].copy_from_slice(src);
     at + n
 }

@@ -6,7 +6,7 @@ ghost use Rattle.rules.specs.Events.{event_of};
 
 use rules::{Device, Event, Outcome};
 
-pub fn through(d: Device, e: Event) -> Outcome
+pub fn through(d: Device, e: Event) -> Outcome<Device>
     ensures { result ≡ event_of d e }
 {
     let mut after = d;

@@ -6,7 +6,7 @@ mod sure;
 ghost use Rattle.std.specs.Prelude.{◌≡◌};
 ghost use Rattle.chip.specs.Chips.{of_z8036, of_z8536, core_of, event_chip};
 
-use rules::{Answer, Device, Event};
+use rules::{Device, Event, Outcome};
 pub use sure::{known, sound};
 use z8536::Z8536;
 
@@ -49,29 +49,22 @@ impl Chip {
     }
 }
 
-// What an event hands back.
-#[derive(Clone, Copy)]
-pub struct OutcomeChip {
-    pub device: Chip,
-    pub answer: Answer,
-}
-
 // Any record and any event, to an answer beside the record.
 #[tactic(auto, unfolding(crate::specs::Chips::event_chip))]
-pub fn event(c: Chip, e: Event) -> OutcomeChip
+pub fn event(c: Chip, e: Event) -> Outcome<Chip>
     ensures { result ≡ event_chip c e }
 {
     if c.z8536 {
         let o = event_z8536::event(c.device, e);
         let a = o.answer;
-        return OutcomeChip {
+        return Outcome {
             device: Chip::of_z8536(o.device),
             answer: a,
         };
     }
     let o = event::event(c.core(), e);
     let a = o.answer;
-    OutcomeChip {
+    Outcome {
         device: Chip::of_z8036(o.device),
         answer: a,
     }

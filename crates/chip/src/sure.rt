@@ -2,8 +2,8 @@
 ghost use Rattle.std.specs.Prelude.{◌≡◌};
 ghost use Rattle.chip.specs.Chips.{sound_chip, known_chip};
 
-use crate::{Chip, OutcomeChip};
-use rules::Event;
+use crate::Chip;
+use rules::{Event, Outcome};
 
 // Whether a record is sound.
 #[tactic(auto, unfolding(crate::specs::Chips::sound_chip))]
@@ -18,13 +18,13 @@ pub fn sound(c: Chip) -> bool
 
 // The event call; where `sure` says that the record is known to be sound, a Z8036 does not ask again.
 #[tactic(auto, unfolding(crate::specs::Chips::known_chip))]
-pub fn known(sure: bool, c: Chip, e: Event) -> OutcomeChip
+pub fn known(sure: bool, c: Chip, e: Event) -> Outcome<Chip>
     ensures { result ≡ known_chip sure c e }
 {
     if sure & !c.z8536 {
         let o = event::known(c.core(), e);
         let a = o.answer;
-        return OutcomeChip {
+        return Outcome {
             device: Chip::of_z8036(o.device),
             answer: a,
         };

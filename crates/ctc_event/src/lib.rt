@@ -9,8 +9,8 @@ ghost use Rattle.std.specs.Prelude.{◌≡◌};
 ghost use Rattle.ctc_rules.specs.Interrupts.{lines_ctc};
 ghost use Rattle.ctc_rules.specs.Events.{no_channel, too_large_ctc, code_ctc, outcome_ctc, unsound_ctc, event_ctc, end_of_service};
 
-use ctc_rules::{Ctc, CtcAnswer, CtcEffect, CtcOutcome};
-use rules::{Event, Lines};
+use ctc_rules::{Ctc, CtcAnswer, CtcEffect};
+use rules::{Event, Lines, Outcome};
 
 #[tactic(auto, unfolding(ctc_rules::specs::Events::no_channel))]
 fn has_no_channel(e: Event) -> bool
@@ -52,10 +52,10 @@ fn code_of(d: Ctc, e: Event) -> u8
 }
 
 // The answer to a record that is not sound.
-fn unsound(d: Ctc) -> CtcOutcome
+fn unsound(d: Ctc) -> Outcome<Ctc, CtcAnswer>
     ensures { result ≡ unsound_ctc d }
 {
-    CtcOutcome {
+    Outcome {
         device: d,
         answer: CtcAnswer {
             code: 9,
@@ -70,12 +70,12 @@ fn unsound(d: Ctc) -> CtcOutcome
 
 // An answer with the lines after the event.
 #[tactic(auto, unfolding(ctc_rules::specs::Events::outcome_ctc, ctc_rules::specs::Interrupts::int_ctc))]
-fn outcome(code: u8, f: CtcEffect) -> CtcOutcome
+fn outcome(code: u8, f: CtcEffect) -> Outcome<Ctc, CtcAnswer>
     ensures { result ≡ outcome_ctc code f }
 {
     let d = f.device;
     let zeros = f.zeros;
-    CtcOutcome {
+    Outcome {
         device: d,
         answer: CtcAnswer {
             code: code,
@@ -90,7 +90,7 @@ fn outcome(code: u8, f: CtcEffect) -> CtcOutcome
 
 // Any record and any event, to an answer beside the record.
 #[tactic(auto, unfolding(ctc_rules::specs::Events::event_ctc))]
-pub fn event(d: Ctc, e: Event) -> CtcOutcome
+pub fn event(d: Ctc, e: Event) -> Outcome<Ctc, CtcAnswer>
     ensures { result ≡ event_ctc d e }
 {
     let code = code_of(d, e);
@@ -105,7 +105,7 @@ pub fn event(d: Ctc, e: Event) -> CtcOutcome
 
 // The end of service of the highest channel in service, if there is one.
 #[tactic(auto, unfolding(ctc_rules::specs::Events::end_of_service))]
-pub fn end_of_service(d: Ctc) -> CtcOutcome
+pub fn end_of_service(d: Ctc) -> Outcome<Ctc, CtcAnswer>
     ensures { result ≡ end_of_service d }
 {
     if ctc_rules::sound(d) {

@@ -21,7 +21,8 @@ use Rattle.rules.specs.declared.Event.{Event}
 use Rattle.rules.specs.Events.{is_t, unknown}
 use Rattle.ctc_rules.specs.declared.Ctc.{Ctc}
 use Rattle.ctc_rules.specs.declared.CtcRan.{CtcRan}
-use Rattle.ctc_rules.specs.declared.CtcOutcome.{CtcOutcome}
+use Rattle.ctc_rules.specs.declared.CtcAnswer.{CtcAnswer}
+use Rattle.rules.specs.declared.Outcome.{Outcome}
 use Rattle.ctc_rules.specs.Set.{set_channels}
 use Rattle.ctc_rules.specs.Record.{four_of, channel_at, FourChannels}
 use Rattle.ctc_rules.specs.Channels.{clock_channel}
@@ -38,7 +39,7 @@ use Rattle.ctc_laws.proofs.Refusals.{unsound, accepted}
 use Rattle.ctc_laws.proofs.Runs.{unseen}
 
 -- ---- what T n answers: the run, or code 9
-abbrev ran_outcome : CtcRan → CtcOutcome
+abbrev ran_outcome : CtcRan → Outcome Ctc CtcAnswer
 ran_outcome s = outcome_ctc 0 (record { device = s.device; value = 0; zeros = s.zeros })
 
 module _ (d : Ctc) (e : Event) (t : So (is_t e)) where
@@ -94,7 +95,7 @@ ran-add a b d =
 
 -- ---- cuts
 -- an outcome, and another from the record that it left, as one
-abbrev then : CtcOutcome → CtcOutcome → CtcOutcome
+abbrev then : Outcome Ctc CtcAnswer → Outcome Ctc CtcAnswer → Outcome Ctc CtcAnswer
 then o p = record { device = p.device; answer = both_ctc o.answer p.answer }
 
 on-top : (r s : CtcRan) → ran_outcome (on_top r.zeros s) ≡ then (ran_outcome r) (ran_outcome s)
@@ -128,10 +129,10 @@ two-by true d a b s =
     let r = ran_ctc a d in
     ran d (tick_of (a + b)) refl s ∙ ap ran_outcome (ran-add a b d) ∙ on-top r (ran_ctc b r.device)
     ∙ ap (then (ran_outcome r)) (sym (next d a b s))
-    ∙ ap (λ (o : CtcOutcome). then o (event_ctc o.device (tick_of b))) (sym (ran d (tick_of a) refl s))
+    ∙ ap (λ (o : Outcome Ctc CtcAnswer). then o (event_ctc o.device (tick_of b))) (sym (ran d (tick_of a) refl s))
 two-by false d a b s =
     unsound d (tick_of (a + b)) s ∙ ap (then (unsound_ctc d)) (sym (unsound d (tick_of b) s))
-    ∙ ap (λ (o : CtcOutcome). then o (event_ctc o.device (tick_of b))) (sym (unsound d (tick_of a) s))
+    ∙ ap (λ (o : Outcome Ctc CtcAnswer). then o (event_ctc o.device (tick_of b))) (sym (unsound d (tick_of a) s))
 
 -- the clocks of a first T, and the clocks of those after it
 cut_by_lem : (d : Ctc) (x : CtcCall) (l : List CtcCall) → So (is_tick x) → So (only_ticks l)
@@ -140,7 +141,7 @@ unfolding only_ticks tick_clocks record_through answers_through answers_one_ctc
 cut_by_lem d x [] t h = ap (λ (n : ℕ). event_ctc d (tick_of n)) (add-zero (ticks_in x)) ∙ sym (call-tick d x t)
 cut_by_lem d x (y ∷ l) t h =
     two-by _ d (ticks_in x) (tick_clocks (y ∷ l)) refl
-    ∙ ap (λ (o : CtcOutcome). then o (event_ctc o.device (tick_of (tick_clocks (y ∷ l))))) (sym (call-tick d x t))
+    ∙ ap (λ (o : Outcome Ctc CtcAnswer). then o (event_ctc o.device (tick_of (tick_clocks (y ∷ l))))) (sym (call-tick d x t))
     ∙ ap (then (call_ctc d x)) (cut_by_lem (call_ctc d x).device y l (left (is_tick y) (only_ticks l) h) (right (is_tick y) (only_ticks l) h))
 
 -- T n is T's of n clocks together, one after the other, however n is cut: the record, the lines, and the zero counts added up

@@ -12,7 +12,8 @@ use Rattle.basics.proofs.Tests.{left, right, by-test}
 use Rattle.rules.specs.declared.Event.{Event}
 use Rattle.rules.specs.Events.{is_w, is_r, is_p, is_k, is_e, unknown}
 use Rattle.ctc_rules.specs.declared.Ctc.{Ctc}
-use Rattle.ctc_rules.specs.declared.CtcOutcome.{CtcOutcome}
+use Rattle.ctc_rules.specs.declared.CtcAnswer.{CtcAnswer}
+use Rattle.rules.specs.declared.Outcome.{Outcome}
 use Rattle.ctc_rules.specs.Interrupts.{requester_ctc}
 use Rattle.ctc_rules.specs.Sound.{sound_ctc}
 use Rattle.ctc_rules.specs.Events.{no_channel, too_large_ctc, code_ctc, plain_ctc, effect_ctc, outcome_ctc, unsound_ctc, event_ctc, end_of_service}
@@ -109,7 +110,7 @@ module _ (d : Ctc) (e : Event) where
       (no_channel e) (too_large_ctc e) (idle_k d e))
 
   -- ---- the answer, by the code
-  pub ways : (P : CtcOutcome → Type 0) → (code_ctc d e ≡ 9 → P (unsound_ctc d)) → (code_ctc d e ≡ 0 → P (outcome_ctc 0 (effect_ctc d e)))
+  pub ways : (P : Outcome Ctc CtcAnswer → Type 0) → (code_ctc d e ≡ 9 → P (unsound_ctc d)) → (code_ctc d e ≡ 0 → P (outcome_ctc 0 (effect_ctc d e)))
       → ((code_ctc d e ≡ 9 → ⊥) → (code_ctc d e ≡ 0 → ⊥) → P (outcome_ctc (code_ctc d e) (plain_ctc d 0))) → P (event_ctc d e)
   unfolding event_ctc
   ways P f g h =

@@ -19,7 +19,8 @@ use Rattle.ctc_rules.specs.declared.Channel.{Channel}
 use Rattle.ctc_rules.specs.declared.Ctc.{Ctc}
 use Rattle.ctc_rules.specs.declared.CtcRan.{CtcRan}
 use Rattle.ctc_rules.specs.declared.CtcEffect.{CtcEffect}
-use Rattle.ctc_rules.specs.declared.CtcOutcome.{CtcOutcome}
+use Rattle.ctc_rules.specs.declared.CtcAnswer.{CtcAnswer}
+use Rattle.rules.specs.declared.Outcome.{Outcome}
 use Rattle.ctc_rules.specs.Set.{set_ip, set_ius, set_channel}
 use Rattle.ctc_rules.specs.Record.{factor_of, blank_channel, channel_at, FourChannels, reset_ctc, fresh_ctc}
 use Rattle.ctc_rules.specs.Channels.{timer_runs, control_word, constant_word}
@@ -147,11 +148,11 @@ effect-sound d e s =
 
 pub event-sound : (d : Ctc) (e : Event) → sound_ctc d ≡ true → sound_ctc (event_ctc d e).device ≡ true
 unfolding outcome_ctc
-event-sound d e s = ways d e (λ (o : CtcOutcome). sound_ctc o.device ≡ true) (λ _. s) (λ _. effect-sound d e s) (λ _ _. s)
+event-sound d e s = ways d e (λ (o : Outcome Ctc CtcAnswer). sound_ctc o.device ≡ true) (λ _. s) (λ _. effect-sound d e s) (λ _ _. s)
 
 pub ended-sound : (d : Ctc) → sound_ctc d ≡ true → sound_ctc (end_of_service d).device ≡ true
 unfolding end_of_service outcome_ctc
-ended-sound d s = by-test (λ (o : CtcOutcome). sound_ctc o.device ≡ true) (sound_ctc d) _ _ (λ _. released-sound d s) (λ _. s)
+ended-sound d s = by-test (λ (o : Outcome Ctc CtcAnswer). sound_ctc o.device ≡ true) (sound_ctc d) _ _ (λ _. released-sound d s) (λ _. s)
 
 -- ---- the shape
 set-shaped : (d : Ctc) (i : ℕ) (x : Channel) → FourChannels d → FourChannels (set_channel d i x)
@@ -184,11 +185,11 @@ effect-shaped d e h =
 
 pub event-shaped : (d : Ctc) (e : Event) → FourChannels d → FourChannels (event_ctc d e).device
 unfolding outcome_ctc
-event-shaped d e h = ways d e (λ (o : CtcOutcome). FourChannels o.device) (λ _. h) (λ _. effect-shaped d e h) (λ _ _. h)
+event-shaped d e h = ways d e (λ (o : Outcome Ctc CtcAnswer). FourChannels o.device) (λ _. h) (λ _. effect-shaped d e h) (λ _ _. h)
 
 pub ended-shaped : (d : Ctc) → FourChannels d → FourChannels (end_of_service d).device
 unfolding end_of_service outcome_ctc released_ctc
-ended-shaped d h = by-test (λ (o : CtcOutcome). FourChannels o.device) (sound_ctc d) _ _ (λ _. set-shaped d (serving_ctc d) _ h) (λ _. h)
+ended-shaped d h = by-test (λ (o : Outcome Ctc CtcAnswer). FourChannels o.device) (sound_ctc d) _ _ (λ _. set-shaped d (serving_ctc d) _ h) (λ _. h)
 
 -- ---- any calls, one after the other
 abbrev pub Good : Ctc → Type 0

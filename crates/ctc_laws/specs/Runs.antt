@@ -6,7 +6,7 @@ use Rattle.rules.specs.declared.Event.{Event}
 use Rattle.rules.specs.Events.{is_t}
 use Rattle.ctc_rules.specs.declared.Ctc.{Ctc}
 use Rattle.ctc_rules.specs.declared.CtcAnswer.{CtcAnswer}
-use Rattle.ctc_rules.specs.declared.CtcOutcome.{CtcOutcome}
+use Rattle.rules.specs.declared.Outcome.{Outcome}
 use Rattle.ctc_rules.specs.Record.{four_of}
 use Rattle.ctc_rules.specs.Clocks.{no_zeros}
 use Rattle.ctc_rules.specs.Events.{event_ctc, end_of_service}
@@ -16,7 +16,7 @@ pub data CtcCall : Type 0 where
   happens : Event → CtcCall
   ends : CtcCall
 
-abbrev pub call_ctc : Ctc → CtcCall → CtcOutcome
+abbrev pub call_ctc : Ctc → CtcCall → Outcome Ctc CtcAnswer
 call_ctc d (happens e) = event_ctc d e
 call_ctc d ends = end_of_service d
 
@@ -91,5 +91,5 @@ answers_one_ctc (x ∷ []) = x
 answers_one_ctc (x ∷ y ∷ l) = both_ctc x (answers_one_ctc (y ∷ l))
 
 -- calls one after the other as one: the record at the end, and their answers as one
-abbrev pub one_ctc : RunCtc → CtcOutcome
+abbrev pub one_ctc : RunCtc → Outcome Ctc CtcAnswer
 one_ctc t = record { device = t.device; answer = answers_one_ctc t.answers }

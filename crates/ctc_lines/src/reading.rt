@@ -3,7 +3,8 @@ ghost use Rattle.std.specs.Prelude.{◌≡◌};
 ghost use Rattle.texts.specs.Kept.{bytes_of};
 ghost use Rattle.ctc_lines.specs.Lines.{ends_service, outcome_kept};
 
-use ctc_rules::{Ctc, CtcOutcome};
+use ctc_rules::{Ctc, CtcAnswer};
+use rules::Outcome;
 use texts::{ROOM, Text};
 
 #[tactic(auto, unfolding(crate::specs::Lines::ends_service))]
@@ -28,7 +29,7 @@ fn ends_service(t: Text) -> bool
 
 // Says a line that is kept to the device.
 #[tactic(auto, unfolding(crate::specs::Lines::outcome_kept, crate::specs::Lines::outcome_line, lines::specs::Lines::says_of))]
-pub fn outcome(d: Ctc, t: Text) -> CtcOutcome
+pub fn outcome(d: Ctc, t: Text) -> Outcome<Ctc, CtcAnswer>
     ensures { result ≡ outcome_kept d t }
 {
     if ends_service(t) {

@@ -6,7 +6,8 @@ use Rattle.rules.specs.declared.Event.{Event}
 use Rattle.rules.specs.Events.{is_x, is_w, is_r, is_p, is_t, is_k, is_e, unknown}
 use Rattle.ctc_rules.specs.declared.Ctc.{Ctc}
 use Rattle.ctc_rules.specs.declared.CtcEffect.{CtcEffect}
-use Rattle.ctc_rules.specs.declared.CtcOutcome.{CtcOutcome}
+use Rattle.ctc_rules.specs.declared.CtcAnswer.{CtcAnswer}
+use Rattle.rules.specs.declared.Outcome.{Outcome}
 use Rattle.ctc_rules.specs.Set.{set_channels, set_vector, set_levels, set_iei, set_channel}
 use Rattle.ctc_rules.specs.Record.{four_of, channel_at, reset_ctc}
 use Rattle.ctc_rules.specs.Channels.{level_channel, control_word, constant_word}
@@ -72,7 +73,7 @@ effect_ctc d e =
 -- ---- the answer
 -- "An answer is: code, value (a byte), trigger levels, INT, IEO, and zero counts of the four channels (0 but for T). Lines are those after
 -- the event."
-unfoldable pub outcome_ctc : ℕ → CtcEffect → CtcOutcome
+unfoldable pub outcome_ctc : ℕ → CtcEffect → Outcome Ctc CtcAnswer
 outcome_ctc code r =
     record {
       device = r.device;
@@ -87,16 +88,16 @@ outcome_ctc code r =
     }
 
 -- "With code 9 value, levels, lines and counts are all 0"
-abbrev pub unsound_ctc : Ctc → CtcOutcome
+abbrev pub unsound_ctc : Ctc → Outcome Ctc CtcAnswer
 unsound_ctc d = record { device = d; answer = record { code = 9; value = 0; levels = 0; int = false; ieo = false; zeros = no_zeros } }
 
 -- an event is a code, an effect, an answer; "A refused event hands its record back as it came."
-unfoldable pub event_ctc : Ctc → Event → CtcOutcome
+unfoldable pub event_ctc : Ctc → Event → Outcome Ctc CtcAnswer
 event_ctc d e =
     if code_ctc d e == 9 then unsound_ctc d else
     if code_ctc d e == 0 then outcome_ctc 0 (effect_ctc d e) else
     outcome_ctc (code_ctc d e) (plain_ctc d 0)
 
 -- "The end of service is a call of its own: it answers 9 or 0, with the lines after it."
-unfoldable pub end_of_service : Ctc → CtcOutcome
+unfoldable pub end_of_service : Ctc → Outcome Ctc CtcAnswer
 end_of_service d = if sound_ctc d then outcome_ctc 0 (plain_ctc (released_ctc d) 0) else unsound_ctc d

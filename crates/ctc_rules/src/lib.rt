@@ -107,13 +107,6 @@ pub struct CtcAnswer {
     pub zeros: [u32; 4],
 }
 
-// What they hand back.
-#[derive(Clone, Copy)]
-pub struct CtcOutcome {
-    pub device: Ctc,
-    pub answer: CtcAnswer,
-}
-
 fn sound_channel(c: Channel) -> bool
     ensures { result ≡ sound_channel c }
 {

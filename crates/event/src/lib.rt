@@ -10,7 +10,7 @@ ghost use Rattle.event.specs.Known.{known_of};
 use rules::{Answer, Device, Effect, Event, Outcome};
 
 // The answer to a record that is not sound.
-fn unsound(d: Device) -> Outcome
+fn unsound(d: Device) -> Outcome<Device>
     ensures { result ≡ record { device = d; answer = unsound_answer } }
 {
     let none = effects::no_report();
@@ -31,7 +31,7 @@ fn unsound(d: Device) -> Outcome
 
 // An answer with the lines after the event, which are worked out once.
 #[tactic(auto, unfolding(rules::specs::Events::outcome_of, rules::specs::Events::answer_of, rules::specs::Events::relit))]
-fn outcome(code: u8, f: Effect) -> Outcome
+fn outcome(code: u8, f: Effect) -> Outcome<Device>
     ensures { result ≡ outcome_of code (relit f) }
 {
     let d = interrupts::relined(f.device);
@@ -53,7 +53,7 @@ fn outcome(code: u8, f: Effect) -> Outcome
 
 // Any record and any event, to an answer beside the record.
 #[tactic(auto, unfolding(rules::specs::Events::event_of))]
-pub fn event(d: Device, e: Event) -> Outcome
+pub fn event(d: Device, e: Event) -> Outcome<Device>
     ensures { result ≡ event_of d e }
 {
     let code = refusals::code_of(d, e);
@@ -68,7 +68,7 @@ pub fn event(d: Device, e: Event) -> Outcome
 
 // The same of a record that is known to be sound, as every record is that an event of a sound one left: nothing asks again whether it is.
 #[tactic(auto, unfolding(crate::specs::Known::known_of, rules::specs::Events::effect_of))]
-pub fn known(d: Device, e: Event) -> Outcome
+pub fn known(d: Device, e: Event) -> Outcome<Device>
     ensures { result ≡ known_of d e }
 {
     let code = refusals::known_code(d, e);

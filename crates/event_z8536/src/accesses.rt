@@ -73,7 +73,7 @@ fn ends(e: Event, code: u8) -> bool
 
 // The record after what came of an event in the core.
 #[tactic(auto, unfolding(z8536::specs::Z8536::after_core))]
-pub(crate) fn after_core(z: Z8536, e: Event, o: Outcome) -> Z8536
+pub(crate) fn after_core(z: Z8536, e: Event, o: Outcome<Device>) -> Z8536
     ensures { result ≡ after_core z e o }
 {
     let d = o.device;

@@ -8,8 +8,8 @@ ghost use Rattle.rules.specs.Report.{no_report};
 ghost use Rattle.rules.specs.Events.{unsound_answer};
 ghost use Rattle.z8536.specs.Z8536.{stands, pointing, accessed, event_z8536};
 
-use rules::{Answer, Event, Report};
-use z8536::{OutcomeZ8536, Z8536};
+use rules::{Answer, Event, Outcome, Report};
+use z8536::Z8536;
 
 fn no_report() -> Report
     ensures { result ≡ no_report }
@@ -21,11 +21,11 @@ fn no_report() -> Report
 }
 
 // The answer to a record that is not sound.
-fn unsound(z: Z8536) -> OutcomeZ8536
+fn unsound(z: Z8536) -> Outcome<Z8536>
     ensures { result ≡ record { device = z; answer = unsound_answer } }
 {
     let none = no_report();
-    OutcomeZ8536 {
+    Outcome {
         device: z,
         answer: Answer {
             code: 9,
@@ -42,12 +42,12 @@ fn unsound(z: Z8536) -> OutcomeZ8536
 
 // An answer with nothing done in the core.
 #[tactic(auto, unfolding(z8536::specs::Z8536::stands, rules::specs::Events::answer_of))]
-fn stands(code: u8, z: Z8536) -> OutcomeZ8536
+fn stands(code: u8, z: Z8536) -> Outcome<Z8536>
     ensures { result ≡ stands code z }
 {
     let d = z.core;
     let none = no_report();
-    OutcomeZ8536 {
+    Outcome {
         device: z,
         answer: Answer {
             code: code,
@@ -64,7 +64,7 @@ fn stands(code: u8, z: Z8536) -> OutcomeZ8536
 
 // A control write that sets the pointer.
 #[tactic(auto, unfolding(z8536::specs::Z8536::pointing))]
-fn point(z: Z8536, e: Event) -> OutcomeZ8536
+fn point(z: Z8536, e: Event) -> Outcome<Z8536>
     ensures { result ≡ pointing z e }
 {
     if 255 < e.b {
@@ -84,13 +84,13 @@ fn point(z: Z8536, e: Event) -> OutcomeZ8536
 
 // The Z8036 event at that register.
 #[tactic(auto, unfolding(z8536::specs::Z8536::accessed))]
-fn access(z: Z8536, e: Event) -> OutcomeZ8536
+fn access(z: Z8536, e: Event) -> Outcome<Z8536>
     ensures { result ≡ accessed z e }
 {
     let o = event::event(z.core, accesses::at_register(z, e));
     let a = o.answer;
     let y = accesses::after_core(z, e, o);
-    OutcomeZ8536 {
+    Outcome {
         device: y,
         answer: a,
     }
@@ -98,7 +98,7 @@ fn access(z: Z8536, e: Event) -> OutcomeZ8536
 
 // Any record and any event, to an answer beside the record.
 #[tactic(auto, unfolding(z8536::specs::Z8536::event_z8536))]
-pub fn event(z: Z8536, e: Event) -> OutcomeZ8536
+pub fn event(z: Z8536, e: Event) -> Outcome<Z8536>
     ensures { result ≡ event_z8536 z e }
 {
     if !z8536::sound(z) {

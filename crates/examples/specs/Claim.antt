@@ -63,7 +63,7 @@ abbrev pub old_of : Device
 old_of = reset_to 1 0 0 0 true
 
 -- the answers to the events of a claim, each in the record that the one before it left, from the record d
-unfoldable pub answered_from : Outcome → List Line → List Answer
+unfoldable pub answered_from : Outcome Device Answer → List Line → List Answer
 answered_from o [] = o.answer ∷ []
 answered_from o (l ∷ ls) = o.answer ∷ answered_from (event_of o.device l.event) ls
 

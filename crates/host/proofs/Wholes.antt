@@ -8,13 +8,13 @@ use Rattle.basics.specs.Buffer.{laid_of}
 use Rattle.rules.specs.declared.Event.{Event}
 use Rattle.rules.specs.declared.Answer.{Answer}
 use Rattle.rules.specs.declared.Lines.{Lines}
+use Rattle.rules.specs.declared.Device.{Device}
+use Rattle.z8536.specs.declared.Z8536.{Z8536}
 use Rattle.rules.specs.declared.Outcome.{Outcome}
 use Rattle.rules.specs.Events.{event_of}
-use Rattle.z8536.specs.declared.OutcomeZ8536.{OutcomeZ8536}
 use Rattle.z8536.specs.Z8536.{event_z8536}
 use Rattle.ctc_rules.specs.declared.Ctc.{Ctc}
 use Rattle.ctc_rules.specs.declared.CtcAnswer.{CtcAnswer}
-use Rattle.ctc_rules.specs.declared.CtcOutcome.{CtcOutcome}
 use Rattle.ctc_rules.specs.Interrupts.{lines_ctc}
 use Rattle.image.specs.declared.Restored.{Restored}
 use Rattle.image.specs.declared.RestoredZ8536.{RestoredZ8536}
@@ -46,7 +46,7 @@ module _ (s b : List ℕ) where
       stays (λ r. r.code) (λ r. event_of r.device e) (λ o. o.answer.code) (λ o. saved_of o.device s) (λ o. reply_bytes o.answer)
       answer_len (λ o. answer-long o.answer) s b (restored_of s)
 
-  pub event-goes : (e : Event) (r : Restored) (o : Outcome) (n : ℕ) (w x y : List ℕ) → r ≡ restored_of s → n ≡ refusal_of r.code (length b) answer_len → n ≡ 0
+  pub event-goes : (e : Event) (r : Restored) (o : Outcome Device Answer) (n : ℕ) (w x y : List ℕ) → r ≡ restored_of s → n ≡ refusal_of r.code (length b) answer_len → n ≡ 0
       → o ≡ event_of r.device e → w ≡ reply_bytes o.answer → x ≡ saved_of o.device s → y ≡ laid_of b 0 w → called o.answer.code x y ≡ host_event s e b
   unfolding host_event
   event-goes e =
@@ -59,20 +59,20 @@ module _ (s b : List ℕ) where
       stays (λ r. r.code) (λ r. event_z8536 r.device e) (λ o. o.answer.code) (λ o. saved_z8536 o.device s) (λ o. reply_bytes o.answer)
       answer_len (λ o. answer-long o.answer) s b (restored_z8536 s)
 
-  pub event-z8536-goes : (e : Event) (r : RestoredZ8536) (o : OutcomeZ8536) (n : ℕ) (w x y : List ℕ) → r ≡ restored_z8536 s → n ≡ refusal_of r.code (length b) answer_len → n ≡ 0
+  pub event-z8536-goes : (e : Event) (r : RestoredZ8536) (o : Outcome Z8536 Answer) (n : ℕ) (w x y : List ℕ) → r ≡ restored_z8536 s → n ≡ refusal_of r.code (length b) answer_len → n ≡ 0
       → o ≡ event_z8536 r.device e → w ≡ reply_bytes o.answer → x ≡ saved_z8536 o.device s → y ≡ laid_of b 0 w → called o.answer.code x y ≡ host_event_z8536 s e b
   unfolding host_event_z8536
   event-z8536-goes e =
       goes (λ r. r.code) (λ r. event_z8536 r.device e) (λ o. o.answer.code) (λ o. saved_z8536 o.device s) (λ o. reply_bytes o.answer)
       answer_len (λ o. answer-long o.answer) s b (restored_z8536 s)
 
-  pub ctc-stays : (f : Ctc → CtcOutcome) (r : CtcRestored) (n : ℕ) → r ≡ restored_ctc s → n ≡ refusal_of r.code (length b) ctc_len → (n ≡ 0 → ⊥) → called n s b ≡ host_ctc s f b
+  pub ctc-stays : (f : Ctc → Outcome Ctc CtcAnswer) (r : CtcRestored) (n : ℕ) → r ≡ restored_ctc s → n ≡ refusal_of r.code (length b) ctc_len → (n ≡ 0 → ⊥) → called n s b ≡ host_ctc s f b
   unfolding host_ctc
   ctc-stays f =
       stays (λ r. r.code) (λ r. f r.device) (λ o. o.answer.code) (λ o. saved_ctc o.device s) (λ o. ctc_bytes o.answer)
       ctc_len (λ o. ctc-long o.answer) s b (restored_ctc s)
 
-  pub ctc-goes : (f : Ctc → CtcOutcome) (r : CtcRestored) (o : CtcOutcome) (n : ℕ) (w x y : List ℕ) → r ≡ restored_ctc s → n ≡ refusal_of r.code (length b) ctc_len → n ≡ 0
+  pub ctc-goes : (f : Ctc → Outcome Ctc CtcAnswer) (r : CtcRestored) (o : Outcome Ctc CtcAnswer) (n : ℕ) (w x y : List ℕ) → r ≡ restored_ctc s → n ≡ refusal_of r.code (length b) ctc_len → n ≡ 0
       → o ≡ f r.device → w ≡ ctc_bytes o.answer → x ≡ saved_ctc o.device s → y ≡ laid_of b 0 w → called o.answer.code x y ≡ host_ctc s f b
   unfolding host_ctc
   ctc-goes f =

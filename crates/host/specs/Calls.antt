@@ -5,7 +5,8 @@ use Rattle.std.specs.Prelude.{ℕ, not, List, ◌++◌, ltb, length, drop, if◌
 use Rattle.rules.specs.declared.Event.{Event}
 use Rattle.rules.specs.Events.{event_of}
 use Rattle.z8536.specs.Z8536.{event_z8536}
-use Rattle.ctc_rules.specs.declared.CtcOutcome.{CtcOutcome}
+use Rattle.ctc_rules.specs.declared.CtcAnswer.{CtcAnswer}
+use Rattle.rules.specs.declared.Outcome.{Outcome}
 use Rattle.ctc_rules.specs.declared.Ctc.{Ctc}
 use Rattle.ctc_rules.specs.Interrupts.{lines_ctc}
 use Rattle.ctc_rules.specs.Events.{event_ctc, end_of_service}
@@ -52,7 +53,7 @@ host_event_z8536 s e b =
     call_of r.code o.answer.code (saved_z8536 o.device s) (reply_bytes o.answer) s b
 
 -- an event of a CTC, or its end of service
-unfoldable pub host_ctc : List ℕ → (Ctc → CtcOutcome) → List ℕ → Called
+unfoldable pub host_ctc : List ℕ → (Ctc → Outcome Ctc CtcAnswer) → List ℕ → Called
 host_ctc s f b =
     let r = restored_ctc s in
     let o = f r.device in

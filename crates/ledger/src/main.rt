@@ -44,7 +44,7 @@ fn counted(of: [u8; CODES], b: u8) -> [u8; CODES] {
     n
 }
 
-fn ask(d: Device, kind: u32, a: u32, b: u32, c: u32) -> Outcome {
+fn ask(d: Device, kind: u32, a: u32, b: u32, c: u32) -> Outcome<Device> {
     event::event(
         d,
         Event {

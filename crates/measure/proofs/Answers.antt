@@ -29,18 +29,18 @@ module _ (m : Measure) (d : Device) (e : Event) (p : past m e ≡ true) where
   unsound s = simp ((code-9 d e).1 (so-not s))
 
   -- from the answer to a T of no clocks
-  module _ (o : Outcome) (q : o ≡ event_of d (tick 0)) where
+  module _ (o : Outcome Device Answer) (q : o ≡ event_of d (tick 0)) where
     sound-code : sound_of d ≡ true → o.answer.code ≡ 0
     unfolding outcome_of answer_of
-    sound-code s = ap (λ (o : Outcome). o.answer.code) (q ∙ none d (tick 0) refl refl s)
+    sound-code s = ap (λ (o : Outcome Device Answer). o.answer.code) (q ∙ none d (tick 0) refl refl s)
 
     unsound-answer : sound_of d ≡ false → o.answer ≡ unsound_answer
-    unsound-answer s = ap (λ (o : Outcome). o.answer) (q ∙ refused d (tick 0) refl s)
+    unsound-answer s = ap (λ (o : Outcome Device Answer). o.answer) (q ∙ refused d (tick 0) refl s)
 
     late_by : (v : Bool) → sound_of d ≡ v → o.answer.code ≡ 0 → record { measure = m; device = d; answer = with_code o.answer 12 } ≡ measured_of m d e
     unfolding outcome_of answer_of
     late_by true s z =
-        ap (λ (o : Outcome). record { measure = m; device = d; answer = with_code o.answer 12 }) (q ∙ none d (tick 0) refl refl s) ∙ sym (late s)
+        ap (λ (o : Outcome Device Answer). record { measure = m; device = d; answer = with_code o.answer 12 }) (q ∙ none d (tick 0) refl refl s) ∙ sym (late s)
     late_by false s z = absurd (omega (arith, sym z ∙ ap (λ (a : Answer). a.code) (unsound-answer s)))
 
     pub late-12 : o.answer.code ≡ 0 → record { measure = m; device = d; answer = with_code o.answer 12 } ≡ measured_of m d e
@@ -54,9 +54,9 @@ module _ (m : Measure) (d : Device) (e : Event) (p : past m e ≡ true) where
     late-9 = other-by _ refl
 
 -- ---- an event that is no T past the limit, from the event call's outcome
-module _ (d : Device) (e : Event) (o : Outcome) (q : o ≡ event_of d e) where
+module _ (d : Device) (e : Event) (o : Outcome Device Answer) (q : o ≡ event_of d e) where
   pub code-of : code_of d e ≡ o.answer.code
-  code-of = sym (code_is d e) ∙ ap (λ (o : Outcome). o.answer.code) (sym q)
+  code-of = sym (code_is d e) ∙ ap (λ (o : Outcome Device Answer). o.answer.code) (sym q)
 
   module _ (m : Measure) (p : past m e ≡ false) where
     pub measured-0 : o.answer.code ≡ 0 → measured_of m d e ≡ beside (measure_of m d e) o

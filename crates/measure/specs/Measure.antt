@@ -3,6 +3,7 @@
 use Rattle.std.specs.Prelude.{ℕ, zero, suc, ◌+◌, ◌-◌, ◌/◌, ◌%◌, Bool, false, not, ◌&&◌, ◌||◌, List, [], ◌∷◌, nat_lt, slice_index_or, slice_set, if◌then◌else◌, ◌==◌}
 use Rattle.rules.specs.declared.Device.{Device}
 use Rattle.rules.specs.declared.Event.{Event}
+use Rattle.rules.specs.declared.Answer.{Answer}
 use Rattle.rules.specs.declared.Outcome.{Outcome}
 use Rattle.rules.specs.Record.{pattern_at, transfer_at, source_at}
 use Rattle.rules.specs.Handshakes.{inputs, outputs, itb}
@@ -86,7 +87,7 @@ measure_of m d e =
     if is_k e then taken d m else
     stepped (clears d e) d (event_of d e).device m
 
-abbrev pub beside : Measure → Outcome → Measured
+abbrev pub beside : Measure → Outcome Device Answer → Measured
 beside m o = record { measure = m; device = o.device; answer = o.answer }
 
 -- refused events leave the measure; with 12 "leaving the table and the device as they stood"

@@ -9,6 +9,7 @@ use native.Mathlib.Omega.{arith}
 use lib.ListN.{length, length-map}
 use Rattle.rules.specs.declared.Device.{Device}
 use Rattle.rules.specs.declared.Event.{Event}
+use Rattle.rules.specs.declared.Answer.{Answer}
 use Rattle.rules.specs.declared.Outcome.{Outcome}
 use Rattle.rules.specs.Record.{Shaped}
 use Rattle.rules.specs.Report.{sums, reports_added}
@@ -33,11 +34,11 @@ abbrev then : RowTurn → RowTurn → RowTurn
 then x y = record { row = y.row; answer = row_answers_added x.answer y.answer }
 
 -- an outcome of a device, and another of the record that it left, as one
-abbrev and_then : Outcome → Outcome → Outcome
+abbrev and_then : Outcome Device Answer → Outcome Device Answer → Outcome Device Answer
 and_then x y = record { device = y.device; answer = answers_added x.answer y.answer }
 
-module _ (o p : Device → Outcome) where
-  abbrev both : Device → Outcome
+module _ (o p : Device → Outcome Device Answer) where
+  abbrev both : Device → Outcome Device Answer
   both d = and_then (o d) (p (o d).device)
 
   shown-both : (ds : List Device) (k : ℕ)
@@ -124,7 +125,7 @@ unfolding outcome_of answer_of shown_of
 none ds e b t q =
     let o : (d : Device) → sound_of d ≡ true → event_of d e.event ≡ outcome_of 0 (effect d 0) = λ d s. device-none d e.event t q s in
     let each = each-one ds e b t in
-    let row = t-row ds e b t ∙ same-each (λ d. (event_of d e.event).device) (λ d. d) ds each (λ d s. ap (λ (o : Outcome). o.device) (o d s)) ∙ map-id ds in
+    let row = t-row ds e b t ∙ same-each (λ d. (event_of d e.event).device) (λ d. d) ds each (λ d s. ap (λ (o : Outcome Device Answer). o.device) (o d s)) ∙ map-id ds in
     let shown =
-    same-each (λ d. shown_in (event_of d e.event).answer) (λ d. shown_of (effect d 0)) ds each (λ d s. ap (λ (o : Outcome). shown_in o.answer) (o d s)) in
+    same-each (λ d. shown_in (event_of d e.event).answer) (λ d. shown_of (effect d 0)) ds each (λ d s. ap (λ (o : Outcome Device Answer). shown_in o.answer) (o d s)) in
     λ j. record { row = row j; answer = (t-answer ds e b t ∙ (λ k. record { code = 0; value = 0; devices = eight_of (shown k) })) j }

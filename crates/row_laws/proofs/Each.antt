@@ -37,7 +37,7 @@ abbrev pub shown_in : Answer → Shown
 shown_in x = record { a = x.a; b = x.b; c = x.c; int = x.int; ieo = x.ieo; report = x.report }
 
 -- a row of which each device has an outcome of its own
-abbrev pub each_turn : (Device → Outcome) → List Device → RowTurn
+abbrev pub each_turn : (Device → Outcome Device Answer) → List Device → RowTurn
 each_turn o ds = record { row = map (λ d. (o d).device) ds; answer = record { code = 0; value = 0; devices = eight_of (map (λ d. shown_in (o d).answer) ds) } }
 
 -- what is the same of each sound device is the same of a row of them
@@ -106,7 +106,7 @@ module _ (e : Event) (t : So (is_t e)) where
 
   value-t : (d : Device) → sound_of d ≡ true → (event_of d e).answer.value ≡ 0
   unfolding outcome_of answer_of relit
-  value-t d s = ap (λ (o : Outcome). o.answer.value) (ran d e t s)
+  value-t d s = ap (λ (o : Outcome Device Answer). o.answer.value) (ran d e t s)
 
 -- each stays sound
 each-ticked : (e : Event) → So (is_t e) → (ds : List Device) → each_sound ds ≡ true → (i : ℕ) → sound_of (device_at (map (λ d. (event_of d e).device) ds) i) ≡ true

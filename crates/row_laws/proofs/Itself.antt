@@ -38,7 +38,7 @@ use Rattle.row_laws.proofs.Refusals.{code_is, refused-answer, code-9}
 -- T is accepted by every sound device
 pub t_code : (d : Device) (e : Event) → is_t e ≡ true → sound_of d ≡ true → code_of d e ≡ 0
 unfolding outcome_of answer_of
-t_code d e t s = sym (device-code d e) ∙ ap (λ (o : Outcome). o.answer.code) (ran d e t s)
+t_code d e t s = sym (device-code d e) ∙ ap (λ (o : Outcome Device Answer). o.answer.code) (ran d e t s)
 
 -- IEI as it is changes nothing where the lines are true
 pub joined-own : (d : Device) → d.lines ≡ lines_of d → iei_from d.iei d ≡ d

@@ -8,6 +8,7 @@ use Rattle.rules.specs.declared.Source.{Source}
 use Rattle.rules.specs.declared.Counted.{Counted}
 use Rattle.rules.specs.declared.Link.{Link}
 use Rattle.rules.specs.declared.Event.{Event}
+use Rattle.rules.specs.declared.Answer.{Answer}
 use Rattle.rules.specs.declared.Outcome.{Outcome}
 use Rattle.rules.specs.declared.Lines.{Lines}
 use Rattle.rules.specs.Record.{source_at, quiet, of_port, of_counter}
@@ -87,12 +88,12 @@ ran-iei n d = ran-keeps (λ (e : Device). e.iei) (λ e v. refl) (λ e. (hold-ste
 module _ (d : Device) (e : Event) (t : So (is_t e)) (s : sound_of d ≡ true) where
   pub iei-kept : (event_of d e).device.iei ≡ d.iei
   unfolding outcome_of relit relined
-  iei-kept = ap (λ (o : Outcome). o.device.iei) (ran d e t s) ∙ ran-iei e.a d
+  iei-kept = ap (λ (o : Outcome Device Answer). o.device.iei) (ran d e t s) ∙ ran-iei e.a d
 
   pub ieo-kept : (event_of d e).device.lines.ieo ≡ d.lines.ieo
   unfolding outcome_of relit relined lines_of
   ieo-kept =
-      ap (λ (o : Outcome). o.device.lines.ieo) (ran d e t s) ∙ ran-ieo e.a d ∙ sym (ap (λ (l : Lines). l.ieo) (sound-lines d s))
+      ap (λ (o : Outcome Device Answer). o.device.lines.ieo) (ran d e t s) ∙ ran-ieo e.a d ∙ sym (ap (λ (l : Lines). l.ieo) (sound-lines d s))
 
   pub ticks-sound : sound_of (event_of d e).device ≡ true
   unfolding relit outcome_of

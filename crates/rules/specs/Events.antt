@@ -148,11 +148,11 @@ answer_of code r =
 abbrev pub unsound_answer : Answer
 unsound_answer = record { code = 9; value = 0; a = 0; b = 0; c = 0; int = false; ieo = false; report = no_report }
 
-unfoldable pub outcome_of : ℕ → Effect → Outcome
+unfoldable pub outcome_of : ℕ → Effect → Outcome Device Answer
 outcome_of code r = record { device = r.device; answer = answer_of code r }
 
 -- an event is a code, an effect, an answer; "A refused event hands its record back as it came."
-unfoldable pub event_of : Device → Event → Outcome
+unfoldable pub event_of : Device → Event → Outcome Device Answer
 event_of d e =
     if code_of d e == 9 then record { device = d; answer = unsound_answer } else
     if code_of d e == 0 then outcome_of 0 (relit (effect_of d e)) else

@@ -1,5 +1,6 @@
 pub mod With
 pub mod Record
+pub mod Refusals
 pub mod Report
 pub mod Registers
 pub mod Handshakes

@@ -2,12 +2,16 @@
 // The rules over them are in specs/, in the paper's words.
 #![tactic(auto)]
 
+mod refusal;
+
 ghost use Rattle.std.specs.Prelude.{◌≡◌, ◌%◌};
 ghost use Rattle.rules.specs.Record.{quiet, idle, bare, blank, vacant, silent, fresh_of, image_len, register_count, of_port, of_counter};
 ghost use Rattle.rules.specs.Registers.{reset};
 
+pub use refusal::{Refusal, code};
+
 // One of the five interrupt sources: what its command register shows, and the hidden error, which none does.
-#[derive(Clone, Copy)]
+#[derive(Clone, Copy, Default, PartialEq, Eq)]
 pub struct Source {
     pub ius: bool,
     pub ie: bool,
@@ -41,23 +45,10 @@ impl Source {
     {
         Source::CT1 - 2 * (i % 3)
     }
-
-    // As a reset leaves it.
-    fn quiet() -> Self
-        ensures { result ≡ quiet }
-    {
-        Source {
-            ius: false,
-            ie: false,
-            ip: false,
-            err: false,
-            hidden: false,
-        }
-    }
 }
 
 // One of the three counter/timers. `frozen` is what 10H-15H read while RCC is 1; `pulse` stands from a terminal on.
-#[derive(Clone, Copy)]
+#[derive(Clone, Copy, Default, PartialEq, Eq)]
 pub struct Counter {
     pub mode: u8,
     pub constant: u16,
@@ -70,27 +61,8 @@ pub struct Counter {
     pub pulse: bool,
 }
 
-impl Counter {
-    // As a reset leaves it.
-    fn idle() -> Self
-        ensures { result ≡ idle }
-    {
-        Counter {
-            mode: 0,
-            constant: 0,
-            count: 0,
-            frozen: 0,
-            rcc: false,
-            gcb: false,
-            cip: false,
-            half: false,
-            pulse: false,
-        }
-    }
-}
-
 // The data of one of the ports A, B and C: three settings, the output register, the outside levels, the catchers.
-#[derive(Clone, Copy)]
+#[derive(Clone, Copy, Default, PartialEq, Eq)]
 pub struct Port {
     pub polarity: u8,
     pub direction: u8,
@@ -100,24 +72,8 @@ pub struct Port {
     pub catcher: u8,
 }
 
-impl Port {
-    // As a reset leaves it, with nothing outside.
-    fn bare() -> Self
-        ensures { result ≡ bare 0 }
-    {
-        Port {
-            polarity: 0,
-            direction: 0,
-            special: 0,
-            output: 0,
-            outside: 0,
-            catcher: 0,
-        }
-    }
-}
-
 // What ports A and B have and C has not: mode, handshake, pattern, IOE and PMF.
-#[derive(Clone, Copy)]
+#[derive(Clone, Copy, Default, PartialEq, Eq)]
 pub struct Pattern {
     pub mode: u8,
     pub handshake: u8,
@@ -128,26 +84,9 @@ pub struct Pattern {
     pub pmf: bool,
 }
 
-impl Pattern {
-    // As a reset leaves it.
-    fn blank() -> Self
-        ensures { result ≡ blank }
-    {
-        Pattern {
-            mode: 0,
-            handshake: 0,
-            polarity: 0,
-            transition: 0,
-            mask: 0,
-            ioe: false,
-            pmf: false,
-        }
-    }
-}
-
 // What a port with handshake holds: the front byte, the byte behind it, how many are held, a transfer that is unfinished,
 // and a pair of reads or writes half done.
-#[derive(Clone, Copy)]
+#[derive(Clone, Copy, Default, PartialEq, Eq)]
 pub struct Transfer {
     pub front: u8,
     pub behind: u8,
@@ -156,23 +95,8 @@ pub struct Transfer {
     pub pair: bool,
 }
 
-impl Transfer {
-    // Nothing held.
-    fn vacant() -> Self
-        ensures { result ≡ vacant }
-    {
-        Transfer {
-            front: 0,
-            behind: 0,
-            bytes: 0,
-            unfinished: false,
-            pair: false,
-        }
-    }
-}
-
 // The interrupt lines as they are stored: INT, IEO, and the place of the highest requester in the order CT3, A, CT2, B, CT1, 1 to 5, 0 if none requests.
-#[derive(Clone, Copy)]
+#[derive(Clone, Copy, PartialEq, Eq)]
 pub struct Lines {
     pub int: bool,
     pub ieo: bool,
@@ -194,7 +118,7 @@ impl Lines {
 
 // The device. `version` is 1 or 2, of its pulse and its image; `vectors` are A, B, CT; `ports` A, B, C; `patterns` and `transfers` A, B; `counters` 1, 2, 3;
 // `sources` stand in their order of priority: CT3, A, CT2, B, CT1.
-#[derive(Clone, Copy)]
+#[derive(Clone, Copy, PartialEq, Eq)]
 pub struct Device {
     pub version: u8,
     pub master: u8,
@@ -222,25 +146,19 @@ impl Device {
     pub fn fresh() -> Self
         ensures { result ≡ fresh_of }
     {
-        let port = Port::bare();
-        let pattern = Pattern::blank();
-        let transfer = Transfer::vacant();
-        let counter = Counter::idle();
-        let source = Source::quiet();
-        let lines = Lines::silent(true);
         Device {
             version: 2,
             master: 1,
             config: 0,
             vectors: [0; 3],
-            ports: [port, port, port],
-            patterns: [pattern, pattern],
-            transfers: [transfer, transfer],
-            counters: [counter, counter, counter],
-            sources: [source, source, source, source, source],
+            ports: [Port::default(); 3],
+            patterns: [Pattern::default(); 2],
+            transfers: [Transfer::default(); 2],
+            counters: [Counter::default(); 3],
+            sources: [Source::default(); 5],
             iei: true,
             phase: false,
-            lines: lines,
+            lines: Lines::silent(true),
         }
     }
 
@@ -299,7 +217,7 @@ impl Event {
 }
 
 // What an answer reports of its clocks: the terminal counts of counters 1, 2, 3, and how many of them were lost.
-#[derive(Clone, Copy)]
+#[derive(Clone, Copy, Default, PartialEq, Eq)]
 pub struct Report {
     pub terminals: [u32; 3],
     pub lost: [u32; 3],
@@ -318,16 +236,16 @@ pub struct Answer {
     pub report: Report,
 }
 
-// What an event hands back.
+// What an event hands back: the device, and the answer beside it.
 #[derive(Clone, Copy)]
-pub struct Outcome {
-    pub device: Device,
-    pub answer: Answer,
+pub struct Outcome<D, A = Answer> {
+    pub device: D,
+    pub answer: A,
 }
 
 // The kind of a register. The number is the port's (A, B, C), the counter's or the vector's place;
 // of a word's two registers the bool tells the high byte.
-#[derive(Clone, Copy)]
+#[derive(Clone, Copy, PartialEq, Eq)]
 pub enum Kind {
     Master,
     Config,
@@ -358,7 +276,7 @@ pub struct Counted {
 }
 
 // What CT1's output does to CT2: a trigger, a gate, and whether it is the only count source and counts.
-#[derive(Clone, Copy)]
+#[derive(Clone, Copy, PartialEq, Eq)]
 pub struct Link {
     pub trigger: bool,
     pub gate: bool,
@@ -375,7 +293,7 @@ pub struct Reach {
 }
 
 // What became of an event (a terminal, a match) at its source: none came, it was taken, kept as the hidden error, or lost.
-#[derive(Clone, Copy)]
+#[derive(Clone, Copy, PartialEq, Eq)]
 pub enum Fate {
     Nothing,
     Taken,

@@ -4,7 +4,8 @@
 use Rattle.std.specs.Prelude.{ℕ, suc, ◌+◌, List, [], ◌∷◌, ◌++◌, map, ltb, length, take, drop, if◌then◌else◌}
 use Rattle.basics.specs.Buffer.{fits}
 use Rattle.chip.specs.declared.Chip.{Chip}
-use Rattle.chip.specs.declared.OutcomeChip.{OutcomeChip}
+use Rattle.rules.specs.declared.Answer.{Answer}
+use Rattle.rules.specs.declared.Outcome.{Outcome}
 use Rattle.chip.specs.Chips.{event_chip}
 use Rattle.texts.specs.Answers.{answer_text}
 use Rattle.texts.specs.Kept.{text_room, no_text}
@@ -17,7 +18,7 @@ use Rattle.session.specs.declared.Session.{Session}
 use Rattle.session.specs.declared.Told.{Told}
 
 -- a line that is kept, said to a device
-abbrev pub outcome_by : Chip → Text → OutcomeChip
+abbrev pub outcome_by : Chip → Text → Outcome Chip Answer
 outcome_by d t = event_chip d (event_in (says_of t))
 
 -- ---- lines said to a device one after the other: the bytes of their answers, and the device after them

@@ -10,6 +10,7 @@ use Rattle.rules.specs.declared.Device.{Device}
 use Rattle.rules.specs.declared.Port.{Port}
 use Rattle.rules.specs.declared.Event.{Event}
 use Rattle.rules.specs.declared.Effect.{Effect}
+use Rattle.rules.specs.declared.Answer.{Answer}
 use Rattle.rules.specs.declared.Outcome.{Outcome}
 use Rattle.basics.specs.Signs.{within}
 use Rattle.basics.specs.Byte.{bit}
@@ -46,5 +47,5 @@ module _ (d : Device) (e : Event) (low : (within 0x10 0x15 e.a && bit e.a 0) ≡
   pub read-leaves : So (is_r e) → (event_of d e).device ≡ d
   unfolding outcome_of effect_of relit
   read-leaves r =
-      ways d e (λ (o : Outcome). o.device ≡ d) (λ _. refl)
+      ways d e (λ (o : Outcome Device Answer). o.device ≡ d) (λ _. refl)
       (λ z. simp (eqb-true e.kind 2 r) (ap relined effect-leaves ∙ sound-relined d (accepted-sound d e z))) (λ _. refl)

@@ -13,6 +13,7 @@ use lib.ListN.{length}
 use borrow.Author.Tests.{eqb-true}
 use Rattle.rules.specs.declared.Device.{Device}
 use Rattle.rules.specs.declared.Event.{Event}
+use Rattle.rules.specs.declared.Answer.{Answer}
 use Rattle.rules.specs.declared.Outcome.{Outcome}
 use Rattle.rules.specs.declared.Ran.{Ran}
 use Rattle.rules.specs.Record.{Shaped}
@@ -37,10 +38,10 @@ use Rattle.theorems.proofs.Reports.{ran-add, ran-none, ran-held, ran-fits}
 use Rattle.theorems.proofs.ReportLaws.{none-fits, fits_more, num-le}
 
 -- ---- what T n answers: the run, or code 9
-abbrev ran_outcome : Ran → Outcome
+abbrev ran_outcome : Ran → Outcome Device Answer
 ran_outcome s = outcome_of 0 (relit (record { device = s.device; value = 0; report = s.report }))
 
-abbrev refusal : Device → Outcome
+abbrev refusal : Device → Outcome Device Answer
 refusal d = record { device = d; answer = unsound_answer }
 
 tick-ran : (d : Device) (n : ℕ) → sound_of d ≡ true → event_of d (tick n) ≡ ran_outcome (ran_of n d)
@@ -81,7 +82,7 @@ module _ (d : Device) (e : Event) (t : So (is_t e)) where
 
 -- ---- cuts
 -- an outcome, and another from the record that it left, as one
-abbrev then : Outcome → Outcome → Outcome
+abbrev then : Outcome Device Answer → Outcome Device Answer → Outcome Device Answer
 then o p = record { device = p.device; answer = answers_added o.answer p.answer }
 
 on-top : (o s : Ran) → ran_outcome (on_top o.report s) ≡ then (ran_outcome o) (ran_outcome s)
@@ -94,7 +95,7 @@ unfolding relined relit outcome_of
 next d a b s =
     let e = (ran_of a d).device in
     let l = lines_of e in
-    ap (λ (o : Outcome). event_of o.device (tick b)) (tick-ran d a s) ∙ tick-ran (relined e) b (ran-relined a d s)
+    ap (λ (o : Outcome Device Answer). event_of o.device (tick b)) (tick-ran d a s) ∙ tick-ran (relined e) b (ran-relined a d s)
     ∙ ap ran_outcome (ran-blind l b e) ∙ ap (λ (f : Device). outcome_of 0 (record { device = f; value = 0; report = (ran_of b e).report })) (relined-blind _ l)
 
 two-by : (v : Bool) (d : Device) (a b : ℕ) → sound_of d ≡ v
@@ -103,10 +104,10 @@ unfolding reports_added sums
 two-by true d a b s =
     tick-ran d (a + b) s ∙ ap ran_outcome (ran-add a b d) ∙ on-top (ran_of a d) (ran_of b (ran_of a d).device)
     ∙ ap (then (ran_outcome (ran_of a d))) (sym (next d a b s))
-    ∙ ap (λ (o : Outcome). then o (event_of (event_of d (tick a)).device (tick b))) (sym (tick-ran d a s))
+    ∙ ap (λ (o : Outcome Device Answer). then o (event_of (event_of d (tick a)).device (tick b))) (sym (tick-ran d a s))
 two-by false d a b s =
     unsound d (tick (a + b)) s ∙ ap (then (refusal d)) (sym (unsound d (tick b) s))
-    ∙ ap (λ (o : Outcome). then o (event_of o.device (tick b))) (sym (unsound d (tick a) s))
+    ∙ ap (λ (o : Outcome Device Answer). then o (event_of o.device (tick b))) (sym (unsound d (tick a) s))
 
 -- the clocks of a first T, and the clocks of those after it
 cut_by_lem : (d : Device) (f : Event) (l : List Event) → So (is_t f) → So (only_t l) → event_of d (tick (f.a + all_clocks l)) ≡ as_one (traced_of d (f ∷ l))
@@ -114,7 +115,7 @@ unfolding only_t all_clocks record_through answers_through answers_as_one
 cut_by_lem d f [] t h = ap (λ (n : ℕ). event_of d (tick n)) (add-zero f.a) ∙ sym (as-tick d f t)
 cut_by_lem d f (g ∷ l) t h =
     two-by _ d f.a (all_clocks (g ∷ l)) refl
-    ∙ ap (λ (o : Outcome). then o (event_of o.device (tick (all_clocks (g ∷ l))))) (sym (as-tick d f t))
+    ∙ ap (λ (o : Outcome Device Answer). then o (event_of o.device (tick (all_clocks (g ∷ l))))) (sym (as-tick d f t))
     ∙ ap (then (event_of d f)) (cut_by_lem (event_of d f).device g l (left (is_t g) (only_t l) h) (right (is_t g) (only_t l) h))
 
 -- T n is T's of n clocks together, one after the other, however n is cut: the record, the lines, and the reports added up

@@ -11,6 +11,7 @@ use borrow.Author.Tests.{ne_eqb}
 use Rattle.rules.specs.declared.Device.{Device}
 use Rattle.rules.specs.declared.Counter.{Counter}
 use Rattle.rules.specs.declared.Event.{Event}
+use Rattle.rules.specs.declared.Answer.{Answer}
 use Rattle.rules.specs.declared.Outcome.{Outcome}
 use Rattle.rules.specs.declared.Ran.{Ran}
 use Rattle.basics.specs.Byte.{bit, num}
@@ -237,12 +238,12 @@ event-view : (d : Device) (i : ℕ) (e : Event) → So (is_t e) → sound_of d �
     → ◌≡◌ {A = ℕ × ℕ} ((counter_at (event_of d e).device i).count, get_or (event_of d e).answer.report.terminals i 0)
     ((counter_at (ran_of e.a d).device i).count, get_or (ran_of e.a d).report.terminals i 0)
 unfolding relit relined outcome_of answer_of
-event-view d i e t s = ap (λ (o : Outcome). ((counter_at o.device i).count, get_or o.answer.report.terminals i 0)) (ran d e t s)
+event-view d i e t s = ap (λ (o : Outcome Device Answer). ((counter_at o.device i).count, get_or o.answer.report.terminals i 0)) (ran d e t s)
 
 event-pulse : (d : Device) (i : ℕ) (e : Event) → So (is_t e) → sound_of d ≡ true
     → (counter_at (event_of d e).device i).pulse ≡ (counter_at (ran_of e.a d).device i).pulse
 unfolding relit relined outcome_of
-event-pulse d i e t s = ap (λ (o : Outcome). (counter_at o.device i).pulse) (ran d e t s)
+event-pulse d i e t s = ap (λ (o : Outcome Device Answer). (counter_at o.device i).pulse) (ran d e t s)
 
 event-lost : (d : Device) (i : ℕ) (e : Event) → So (is_t e) → i < 3 → sound_of d ≡ true → Shaped d
     → get_or (event_of d e).answer.report.lost i 0 ≡ lost_after (source_at d (of_counter i)) (get_or (event_of d e).answer.report.terminals i 0)

@@ -10,6 +10,7 @@ use lib.Dec.{eqb}
 use borrow.Author.Tests.{eqb-true, eqb-false, eq-eqb}
 use Rattle.rules.specs.declared.Device.{Device}
 use Rattle.rules.specs.declared.Event.{Event}
+use Rattle.rules.specs.declared.Answer.{Answer}
 use Rattle.rules.specs.declared.Outcome.{Outcome}
 use Rattle.rules.specs.Report.{no_report}
 use Rattle.rules.specs.Registers.{read_only, later}
@@ -39,7 +40,7 @@ unheld d e s w = simp (handshake-awake d (e.a - 0x0D) w.place (sound-parts d s).
 
 module _ (d : Device) (e : Event) where
   -- the three ways of an event: an unsound record, an accepted event, a refusal
-  pub ways : (P : Outcome → Type 0) → (code_of d e ≡ 9 → P (record { device = d; answer = unsound_answer }))
+  pub ways : (P : Outcome Device Answer → Type 0) → (code_of d e ≡ 9 → P (record { device = d; answer = unsound_answer }))
       → (code_of d e ≡ 0 → P (outcome_of 0 (relit (effect_of d e)))) → ((code_of d e ≡ 9 → ⊥) → P (outcome_of (code_of d e) (effect d 0))) → P (event_of d e)
   unfolding event_of
   ways P f g h =

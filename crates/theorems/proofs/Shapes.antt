@@ -13,6 +13,7 @@ use Rattle.rules.specs.declared.Transfer.{Transfer}
 use Rattle.rules.specs.declared.Device.{Device}
 use Rattle.rules.specs.declared.Counted.{Counted}
 use Rattle.rules.specs.declared.Event.{Event}
+use Rattle.rules.specs.declared.Answer.{Answer}
 use Rattle.rules.specs.declared.Outcome.{Outcome}
 use Rattle.rules.specs.declared.Effect.{Effect}
 use Rattle.rules.specs.declared.Ran.{Ran}
@@ -238,4 +239,4 @@ module _ (d : Device) (h : Shaped d) where
 
   pub event-shaped : (e : Event) → Shaped (event_of d e).device
   unfolding outcome_of relit
-  event-shaped e = ways d e (λ (o : Outcome). Shaped o.device) (λ _. h) (λ _. relined-shaped _ (effect-shaped e)) (λ _. h)
+  event-shaped e = ways d e (λ (o : Outcome Device Answer). Shaped o.device) (λ _. h) (λ _. relined-shaped _ (effect-shaped e)) (λ _. h)

@@ -8,6 +8,7 @@ use mathlib.Core.List.{List}
 use lib.Dec.{lit<}
 use Rattle.rules.specs.declared.Device.{Device}
 use Rattle.rules.specs.declared.Event.{Event}
+use Rattle.rules.specs.declared.Answer.{Answer}
 use Rattle.rules.specs.declared.Outcome.{Outcome}
 use Rattle.rules.specs.declared.Lines.{Lines}
 use Rattle.rules.specs.declared.Ran.{Ran}
@@ -61,7 +62,7 @@ ran-relined n d h = relined-sound (ran_of n d).device (ran-parts n d (sound-part
 pub event-sound : (d : Device) (e : Event) → Shaped d → sound_of d ≡ true → sound_of (event_of d e).device ≡ true
 unfolding outcome_of relit
 event-sound d e k h =
-    ways d e (λ (o : Outcome). sound_of o.device ≡ true) (λ _. h) (λ z. relined-sound _ (effect-parts d e z k (sound-parts d h))) (λ _. h)
+    ways d e (λ (o : Outcome Device Answer). sound_of o.device ≡ true) (λ _. h) (λ z. relined-sound _ (effect-parts d e z k (sound-parts d h))) (λ _. h)
 
 -- any events, one after another, from a sound record of the device's shape
 abbrev pub Good : Device → Type 0

@@ -11,6 +11,7 @@ use lib.Dec.{eqb}
 use Rattle.rules.specs.declared.Device.{Device}
 use Rattle.rules.specs.declared.Lines.{Lines}
 use Rattle.rules.specs.declared.Event.{Event}
+use Rattle.rules.specs.declared.Answer.{Answer}
 use Rattle.rules.specs.declared.Outcome.{Outcome}
 use Rattle.rules.specs.declared.Ran.{Ran}
 use Rattle.rules.specs.With.{with_lines}
@@ -64,7 +65,7 @@ reset-lines d = simp (and-true)
 -- ---- after every event, refused or not, and after any events
 kept : (d : Device) (e : Event) → d.lines ≡ lines_of d → (event_of d e).device.lines ≡ lines_of (event_of d e).device
 unfolding outcome_of relit
-kept d e t = ways d e (λ (o : Outcome). o.device.lines ≡ lines_of o.device) (λ _. t) (λ _. relined-true _) (λ _. t)
+kept d e t = ways d e (λ (o : Outcome Device Answer). o.device.lines ≡ lines_of o.device) (λ _. t) (λ _. relined-true _) (λ _. t)
 
 kept-by-all : (d : Device) (es : List Event) → d.lines ≡ lines_of d → (record_after d es).lines ≡ lines_of (record_after d es)
 kept-by-all = list-kept next_of (λ (d : Device). d.lines ≡ lines_of d) kept
@@ -80,7 +81,7 @@ as-stored : (d : Device) (e : Event) → sound_of d ≡ true
     → ((event_of d e).answer.int ≡ (event_of d e).device.lines.int) × ((event_of d e).answer.ieo ≡ (event_of d e).device.lines.ieo)
 unfolding outcome_of answer_of
 as-stored d e s =
-    ways d e (λ (o : Outcome). (o.answer.int ≡ o.device.lines.int) × (o.answer.ieo ≡ o.device.lines.ieo))
+    ways d e (λ (o : Outcome Device Answer). (o.answer.int ≡ o.device.lines.int) × (o.answer.ieo ≡ o.device.lines.ieo))
     (λ n. never (not_so (sound_of d) ((code-9 d e).0 n)) s) (λ _. (refl, refl)) (λ _. (refl, refl))
 
 pub answer-lines : (d : Device) (e : Event) → sound_of d ≡ true

@@ -10,6 +10,7 @@ use borrow.Author.Tests.{lt-ltb, ltb-false, le-ltb, ne_eqb}
 use Rattle.rules.specs.declared.Device.{Device}
 use Rattle.rules.specs.declared.Event.{Event}
 use Rattle.rules.specs.declared.Effect.{Effect}
+use Rattle.rules.specs.declared.Answer.{Answer}
 use Rattle.rules.specs.declared.Outcome.{Outcome}
 use Rattle.rules.specs.declared.Kind.{Kind}
 use Rattle.rules.specs.declared.Kind.TheVariants.{Master, Config, Vector, Polarity, Direction, Special, PortCommand, CounterCommand}
@@ -111,7 +112,7 @@ module _ (d : Device) where
 -- ---- every event keeps the version, whatever the record
 pub version-kept : (d : Device) (e : Event) → (event_of d e).device.version ≡ d.version
 unfolding outcome_of relit relined
-version-kept d e = ways d e (λ (o : Outcome). o.device.version ≡ d.version) (λ _. refl) (λ _. effect-kept d e) (λ _. refl)
+version-kept d e = ways d e (λ (o : Outcome Device Answer). o.device.version ≡ d.version) (λ _. refl) (λ _. effect-kept d e) (λ _. refl)
 
 -- and so do any events, one after another
 pub list-version : (d : Device) (l : List Event) → (record_after d l).version ≡ d.version

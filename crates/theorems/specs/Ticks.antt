@@ -3,6 +3,7 @@
 use Rattle.std.specs.Prelude.{ℕ, ◌+◌, Bool, true, false, ◌&&◌, List, [], ◌∷◌, ◌==◌}
 use Rattle.rules.specs.declared.Event.{Event}
 use Rattle.rules.specs.declared.Answer.{Answer}
+use Rattle.rules.specs.declared.Device.{Device}
 use Rattle.rules.specs.declared.Outcome.{Outcome}
 use Rattle.rules.specs.declared.Ran.{Ran}
 use Rattle.rules.specs.declared.Report.{Report}
@@ -56,5 +57,5 @@ answers_as_one (x ∷ []) = x
 answers_as_one (x ∷ y ∷ l) = answers_added x (answers_as_one (y ∷ l))
 
 -- events one after the other as one: the record at the end, and their answers as one
-abbrev pub as_one : Traced → Outcome
+abbrev pub as_one : Traced → Outcome Device Answer
 as_one t = record { device = t.device; answer = answers_as_one t.answers }

@@ -8,6 +8,8 @@ use native.Mathlib.Omega.{arith}
 use lib.Dec.{eqb, ltb, leb}
 use borrow.Author.Tests.{eqb-true, leb-false, le-ltb, ne_eqb, not-false}
 use Rattle.rules.specs.declared.Event.{Event}
+use Rattle.rules.specs.declared.Device.{Device}
+use Rattle.rules.specs.declared.Answer.{Answer}
 use Rattle.rules.specs.declared.Outcome.{Outcome}
 use Rattle.rules.specs.Record.{register_count}
 use Rattle.rules.specs.Registers.{reset}
@@ -15,7 +17,6 @@ use Rattle.rules.specs.Events.{is_w, is_r, answer_of, unsound_answer, event_of}
 use Rattle.basics.proofs.Places.{each3}
 use Rattle.basics.proofs.Tests.{left, right, not_so, never, by-test}
 use Rattle.z8536.specs.declared.Z8536.{Z8536}
-use Rattle.z8536.specs.declared.OutcomeZ8536.{OutcomeZ8536}
 use Rattle.z8536.specs.Z8536.{sound_z8536, accesses, controls, register_of, at_register, points, pointer_of, after_core, no_address, no_pointer}
 use Rattle.z8536.specs.Z8536.{stands, pointing, accessed, event_z8536}
 use Rattle.z8536.proofs.Parts.{parts, whole, no-reset-clear}
@@ -30,7 +31,7 @@ none_of false b h = refl
 
 module _ (z : Z8536) (e : Event) where
   -- the four ways of an event: an unsound record, no address, a pointer write, and all others
-  pub ways : (P : OutcomeZ8536 → Type 0)
+  pub ways : (P : Outcome Z8536 Answer → Type 0)
       → (sound_z8536 z ≡ false → P (record { device = z; answer = unsound_answer }))
       → (sound_z8536 z ≡ true → So (no_address e) → P (stands 2 z))
       → (sound_z8536 z ≡ true → no_address e ≡ false → So (points z e) → P (pointing z e))
@@ -51,11 +52,11 @@ module _ (z : Z8536) (e : Event) where
   reaches s a p = simp (s, a, p)
 
   -- what came of an event in the core
-  pub record AsCore (o : Outcome) : Type 0 where
+  pub record AsCore (o : Outcome Device Answer) : Type 0 where
     pub answer : (event_z8536 z e).answer ≡ o.answer
     pub core : (event_z8536 z e).device.core ≡ o.device
 
-  pub core-after : (o : Outcome) → (after_core z e o).core ≡ o.device
+  pub core-after : (o : Outcome Device Answer) → (after_core z e o).core ≡ o.device
   unfolding after_core
   core-after o = by-test (λ (y : Z8536). y.core ≡ o.device) (reset o.device) _ _ (λ _. refl) (λ _. refl)
 
@@ -65,8 +66,8 @@ module _ (z : Z8536) (e : Event) where
   answers-as-core s a p =
       let q = reaches s a p in
       record {
-        answer = ap (λ (o : OutcomeZ8536). o.answer) q;
-        core = ap (λ (o : OutcomeZ8536). o.device.core) q ∙ core-after (event_of z.core (at_register z e));
+        answer = ap (λ (o : Outcome Z8536 Answer). o.answer) q;
+        core = ap (λ (o : Outcome Z8536 Answer). o.device.core) q ∙ core-after (event_of z.core (at_register z e));
       }
 
   -- every event other than W and R is the core's own
@@ -80,11 +81,11 @@ module _ (z : Z8536) (e : Event) where
       let w = none_of (is_w e) (is_r e) n in
       let h = answers-as-core s (simp n) (simp w) in
       let q = ap (event_of z.core) (itself n) in
-      record { answer = h.answer ∙ ap (λ (o : Outcome). o.answer) q; core = h.core ∙ ap (λ (o : Outcome). o.device) q }
+      record { answer = h.answer ∙ ap (λ (o : Outcome Device Answer). o.answer) q; core = h.core ∙ ap (λ (o : Outcome Device Answer). o.device) q }
 
   -- ---- a pointer write leaves the core as it is
   -- the three ways of one: a byte too large, no such register, and a pointer
-  pub pointing-ways : (P : OutcomeZ8536 → Type 0) → (So (ltb 255 e.b) → P (stands 5 z)) → (ltb 255 e.b ≡ false → So (no_pointer e) → P (stands 2 z))
+  pub pointing-ways : (P : Outcome Z8536 Answer → Type 0) → (So (ltb 255 e.b) → P (stands 5 z)) → (ltb 255 e.b ≡ false → So (no_pointer e) → P (stands 2 z))
       → (ltb 255 e.b ≡ false → pointer_of e < register_count → P (stands 0 (pointed_to z (pointer_of e)))) → P (pointing z e)
   unfolding pointing no_pointer
   pointing-ways P f g h =
@@ -92,15 +93,15 @@ module _ (z : Z8536) (e : Event) where
 
   pub pointing-core : (pointing z e).device.core ≡ z.core
   unfolding stands
-  pointing-core = pointing-ways (λ (o : OutcomeZ8536). o.device.core ≡ z.core) (λ _. refl) (λ _ _. refl) (λ _ _. refl)
+  pointing-core = pointing-ways (λ (o : Outcome Z8536 Answer). o.device.core ≡ z.core) (λ _. refl) (λ _ _. refl) (λ _ _. refl)
 
   pub steps-nothing : So (points z e) → (event_z8536 z e).device.core ≡ z.core
   unfolding stands
   steps-nothing p =
-      ways (λ (o : OutcomeZ8536). o.device.core ≡ z.core) (λ _. refl) (λ _ _. refl) (λ _ _ _. pointing-core) (λ _ _ n. never n p)
+      ways (λ (o : Outcome Z8536 Answer). o.device.core ≡ z.core) (λ _. refl) (λ _ _. refl) (λ _ _ _. pointing-core) (λ _ _ n. never n p)
 
   -- ---- one that is accepted sets the pointer, to one of the 48; one that is refused leaves all as it came (`Pointer.refused-keeps`)
-  abbrev pub Sets : OutcomeZ8536 → Type 0
+  abbrev pub Sets : Outcome Z8536 Answer → Type 0
   Sets o = (o.device ≡ pointed_to z (pointer_of e)) × (pointer_of e < register_count)
 
   pub sets : So (points z e) → (event_z8536 z e).answer.code ≡ 0 → Sets (event_z8536 z e)
@@ -110,7 +111,7 @@ module _ (z : Z8536) (e : Event) where
       (λ _ _ _. pointing-ways Accepted (λ _ q. absurd (omega (arith, q))) (λ _ _ q. absurd (omega (arith, q))) (λ _ n _. (refl, n)))
       (λ _ _ n. never n p)
     where
-      Accepted : OutcomeZ8536 → Type 0
+      Accepted : Outcome Z8536 Answer → Type 0
       Accepted o = o.answer.code ≡ 0 → Sets o
 
   -- a device that takes a pointer is not in reset

@@ -16,7 +16,8 @@ use Rattle.basics.proofs.Tests.{left, right, by-test}
 use Rattle.theorems.proofs.Codes.{write_known, too-large-known, test-9, test-1, test-2, test-5}
 use Rattle.theorems.proofs.Refusals.{code_is as core-code}
 use Rattle.z8536.specs.declared.Z8536.{Z8536}
-use Rattle.z8536.specs.declared.OutcomeZ8536.{OutcomeZ8536}
+use Rattle.rules.specs.declared.Answer.{Answer}
+use Rattle.rules.specs.declared.Outcome.{Outcome}
 use Rattle.z8536.specs.Z8536.{sound_z8536, accesses, register_of, at_register, points, no_address, no_pointer, code_z8536, stands, pointing, accessed, event_z8536}
 use Rattle.z8536.proofs.Parts.{parts}
 use Rattle.z8536.proofs.Access.{ways}
@@ -105,7 +106,7 @@ module _ (z : Z8536) (e : Event) where
   pub code_is : (event_z8536 z e).answer.code ≡ code_z8536 z e
   unfolding code_z8536 stands answer_of accessed
   code_is =
-      ways z e (λ (o : OutcomeZ8536). o.answer.code ≡ code_z8536 z e) (λ s. simp s) (λ s a. simp (s, address-known e a, a))
+      ways z e (λ (o : Outcome Z8536 Answer). o.answer.code ≡ code_z8536 z e) (λ s. simp s) (λ s a. simp (s, address-known e a, a))
       (λ s a p.
       let w = points-write z e p in
       pointing-code _ _ refl refl ∙ simp (s, write_known e w, a, write-large e w, p))

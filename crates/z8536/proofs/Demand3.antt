@@ -30,7 +30,6 @@ use Rattle.theorems.proofs.Reports.{ran-keeps}
 use Rattle.theorems.proofs.Versions.{version-kept}
 use Rattle.theorems.proofs.Demand3.{ran, none as core-none, under-reset as core-under-reset, cut as core-cut, many as core-many}
 use Rattle.z8536.specs.declared.Z8536.{Z8536}
-use Rattle.z8536.specs.declared.OutcomeZ8536.{OutcomeZ8536}
 use Rattle.z8536.specs.Z8536.{sound_z8536, reset_clear, accesses, points, ends, after_core, no_address, stands, accessed, event_z8536}
 use Rattle.z8536.specs.Runs.{RunZ8536, run_z8536, cut_z8536, one_of}
 use Rattle.z8536.proofs.Parts.{parts, whole, clear}
@@ -41,7 +40,7 @@ use Rattle.z8536.proofs.Runs.{unseen}
 abbrev pub behind : Z8536 → Device → Z8536
 behind z d = record { core = d; pointer = z.pointer; pointed = z.pointed }
 
-abbrev outcome : Z8536 → Outcome → OutcomeZ8536
+abbrev outcome : Z8536 → Outcome Device Answer → Outcome Z8536 Answer
 outcome z o = record { device = behind z o.device; answer = o.answer }
 
 abbrev run : Z8536 → Traced → RunZ8536
@@ -51,7 +50,7 @@ run z t = record { answers = t.answers; device = behind z t.device }
 tick-master : (d : Device) (e : Event) → So (is_t e) → sound_of d ≡ true → (event_of d e).device.master ≡ d.master
 unfolding relit relined outcome_of
 tick-master d e t s =
-    ap (λ (o : Outcome). o.device.master) (ran d e t s)
+    ap (λ (o : Outcome Device Answer). o.device.master) (ran d e t s)
     ∙ ran-keeps (λ (e : Device). e.master) (λ e v. refl) (λ e. (frame_step true e (with_phase e false)).master) e.a d
 
 -- T keeps a sound core sound, whatever its shape
@@ -64,7 +63,7 @@ module _ (z : Z8536) (e : Event) (t : So (is_t e)) where
   no_access = ap (λ (k : ℕ). eqb k 1 || eqb k 2) (eqb-true e.kind 4 t)
 
   module _ (s : sound_z8536 z ≡ true) where
-    abbrev o : Outcome
+    abbrev o : Outcome Device Answer
     o = event_of z.core e
 
     reset-kept : reset o.device ≡ reset z.core
@@ -109,10 +108,10 @@ refused-run : (z : Z8536) (f : Event) (l : List Event) → sound_z8536 z ≡ fal
 unfolding answers_through record_through answers_as_one reports_added sums
 refused-run z f [] s = unsound z f s
 refused-run z f (g ∷ l) s =
-    ap (λ (o : OutcomeZ8536). then o.answer (one_of (run_z8536 o.device (g ∷ l)))) (unsound z f s)
+    ap (λ (o : Outcome Z8536 Answer). then o.answer (one_of (run_z8536 o.device (g ∷ l)))) (unsound z f s)
     ∙ ap (then unsound_answer) (refused-run z g l s)
   where
-    then : Answer → OutcomeZ8536 → OutcomeZ8536
+    then : Answer → Outcome Z8536 Answer → Outcome Z8536 Answer
     then x o = record { device = o.device; answer = answers_added x o.answer }
 
 -- T's one after the other are those of the core, so where one T is such in the core it is in the Z8536: of lists all of whose events are T
@@ -123,7 +122,7 @@ module _ (only : List Event → Bool) (each : (e : Event) (l : List Event) → S
   runs z (e ∷ l) h s =
       let t = each e l h in
       let d = (event_of z.core e).device in
-      ap (λ (o : OutcomeZ8536). first o.answer (run_z8536 o.device l)) (ticks z e t.0 s)
+      ap (λ (o : Outcome Z8536 Answer). first o.answer (run_z8536 o.device l)) (ticks z e t.0 s)
       ∙ ap (first (event_of z.core e).answer) (runs (behind z d) l t.1 (ticks-sound z e t.0 s))
     where
       first : Answer → RunZ8536 → RunZ8536

@@ -8,6 +8,7 @@ use lib.Dec.{eqb}
 use borrow.Author.Tests.{eqb-true}
 use Rattle.rules.specs.declared.Device.{Device}
 use Rattle.rules.specs.declared.Event.{Event}
+use Rattle.rules.specs.declared.Answer.{Answer}
 use Rattle.rules.specs.declared.Outcome.{Outcome}
 use Rattle.rules.specs.Record.{reset_of}
 use Rattle.rules.specs.Registers.{reset}
@@ -17,7 +18,6 @@ use Rattle.rules.specs.Events.{is_x, unknown, no_register, too_large, held, no_b
 use Rattle.basics.proofs.Tests.{never, by-test}
 use Rattle.theorems.proofs.Refusals.{refused-keeps as core-keeps}
 use Rattle.z8536.specs.declared.Z8536.{Z8536}
-use Rattle.z8536.specs.declared.OutcomeZ8536.{OutcomeZ8536}
 use Rattle.z8536.specs.Z8536.{sound_z8536, controls, at_register, points, ends, after_core, code_z8536, stands, accessed, event_z8536}
 use Rattle.z8536.proofs.Parts.{parts, Clear, clear}
 use Rattle.z8536.proofs.Access.{ways, pointing-core, pointing-ways, points-awake, others-as-core}
@@ -45,7 +45,7 @@ refusal n = passed (λ m. m ≡ 0 → ⊥) n (λ q. omega (arith, q)) (λ q. ome
 
 module _ (z : Z8536) (e : Event) where
   -- ---- "and the pointer state returns"; "A control access refused with 3, 4, 10 or 11 also ends the pointer state."
-  abbrev Ended : OutcomeZ8536 → Type 0
+  abbrev Ended : Outcome Z8536 Answer → Type 0
   Ended o = So (ends e o.answer.code) → o.device.pointed ≡ false
 
   pub state-ends : points z e ≡ false → So (ends e (code_z8536 z e)) → (event_z8536 z e).device.pointed ≡ false
@@ -58,7 +58,7 @@ module _ (z : Z8536) (e : Event) where
 
   -- ---- but for a pointer write and a reset, the pointer is kept; and the state too where it is not ended
   module _ (n : points z e ≡ false) (r : reset (event_z8536 z e).device.core ≡ false) where
-    abbrev Stays : OutcomeZ8536 → Type 0
+    abbrev Stays : Outcome Z8536 Answer → Type 0
     Stays o = reset o.device.core ≡ false → o.device.pointer ≡ z.pointer
 
     pub pointer-kept : (event_z8536 z e).device.pointer ≡ z.pointer
@@ -70,7 +70,7 @@ module _ (z : Z8536) (e : Event) where
         by-test (λ (y : Z8536). reset y.core ≡ false → y.pointer ≡ z.pointer) (reset o.device) _ _ (λ t f. never f t) (λ _ _. refl))
         r
 
-    abbrev Lasts : OutcomeZ8536 → Type 0
+    abbrev Lasts : Outcome Z8536 Answer → Type 0
     Lasts o = ends e o.answer.code ≡ false → reset o.device.core ≡ false → o.device.pointed ≡ z.pointed
 
     pub state-kept : ends e (code_z8536 z e) ≡ false → (event_z8536 z e).device.pointed ≡ z.pointed
@@ -94,7 +94,7 @@ module _ (z : Z8536) (e : Event) where
   unended : (code : ℕ) → ends e code ≡ false → left_by code ≡ z
   unended code h = simp (h, and-true)
 
-  after-refused : (o : Outcome) → sound_z8536 z ≡ true → o.device ≡ z.core → after_core z e o ≡ left_by o.answer.code
+  after-refused : (o : Outcome Device Answer) → sound_z8536 z ≡ true → o.device ≡ z.core → after_core z e o ≡ left_by o.answer.code
   unfolding after_core
   after-refused o s q =
       by-test (λ (y : Z8536). y ≡ left_by o.answer.code) (reset o.device) _ _
@@ -103,7 +103,7 @@ module _ (z : Z8536) (e : Event) where
       λ i. record { core = q i; pointer = sym c.pointer i; pointed = sym (ap (λ (b : Bool). b && not (ends e o.answer.code)) c.pointed) i })
       (λ _. ap (λ (d : Device). record { core = d; pointer = z.pointer; pointed = z.pointed && not (ends e o.answer.code) }) q)
 
-  abbrev Left : OutcomeZ8536 → Type 0
+  abbrev Left : Outcome Z8536 Answer → Type 0
   Left o = (o.answer.code ≡ 0 → ⊥) → o.device ≡ left_by o.answer.code
 
   pub refused : (code_z8536 z e ≡ 0 → ⊥) → (event_z8536 z e).device ≡ left_by (code_z8536 z e)
@@ -127,7 +127,7 @@ module _ (z : Z8536) (e : Event) where
   unfolding stands accessed after_core
   reset-clears s r =
       let o = event_of z.core (at_register z e) in
-      ways z e (λ (o : OutcomeZ8536). reset o.device.core ≡ true → Clear o.device) (λ u. never u s) (λ _ _. clear z s)
+      ways z e (λ (o : Outcome Z8536 Answer). reset o.device.core ≡ true → Clear o.device) (λ u. never u s) (λ _ _. clear z s)
       (λ _ _ p t. never (ap (λ (d : Device). reset d) (pointing-core z e) ∙ points-awake z e p) t)
       (λ _ _ _.
       by-test (λ (y : Z8536). reset y.core ≡ true → Clear y) (reset o.device) _ _ (λ _ _. record { pointer = refl; pointed = refl }) (λ f t. never f t))

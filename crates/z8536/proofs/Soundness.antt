@@ -6,6 +6,7 @@ use mathlib.Core.List.{List}
 use lib.Dec.{lit<}
 use Rattle.rules.specs.declared.Device.{Device}
 use Rattle.rules.specs.declared.Event.{Event}
+use Rattle.rules.specs.declared.Answer.{Answer}
 use Rattle.rules.specs.declared.Outcome.{Outcome}
 use Rattle.rules.specs.Record.{Shaped}
 use Rattle.rules.specs.Registers.{reset}
@@ -17,7 +18,6 @@ use Rattle.theorems.proofs.Soundness.{fresh-sound as fresh-core, event-sound as 
 use Rattle.theorems.proofs.Shapes.{fresh-shaped, event-shaped as core-shaped}
 use Rattle.theorems.proofs.Versions.{version-kept as core-version}
 use Rattle.z8536.specs.declared.Z8536.{Z8536}
-use Rattle.z8536.specs.declared.OutcomeZ8536.{OutcomeZ8536}
 use Rattle.z8536.specs.Z8536.{fresh_z8536, reset_clear, sound_z8536, at_register, after_core, stands, accessed, event_z8536}
 use Rattle.z8536.specs.Runs.{next_z8536, record_z8536}
 use Rattle.z8536.proofs.Parts.{parts, whole}
@@ -34,7 +34,7 @@ module _ (z : Z8536) (e : Event) where
   pub core-kept : (P : Device → Type 0) → P z.core → P (event_of z.core (at_register z e)).device → P (event_z8536 z e).device.core
   unfolding stands accessed
   core-kept P h k =
-      ways z e (λ (o : OutcomeZ8536). P o.device.core) (λ _. h) (λ _ _. h) (λ _ _ _. subst P (sym (pointing-core z e)) h)
+      ways z e (λ (o : Outcome Z8536 Answer). P o.device.core) (λ _. h) (λ _ _. h) (λ _ _ _. subst P (sym (pointing-core z e)) h)
       (λ _ _ _. subst P (sym (core-after z e (event_of z.core (at_register z e)))) k)
 
   pub version-kept : (event_z8536 z e).device.core.version ≡ z.core.version
@@ -44,7 +44,7 @@ module _ (z : Z8536) (e : Event) where
   event-shaped k = core-kept Shaped k (core-shaped z.core k (at_register z e))
 
   -- a pointer that there is stays one, and a core in reset has none
-  after-sound : (o : Outcome) → sound_z8536 z ≡ true → sound_of o.device ≡ true → o.device.version ≡ 2 → sound_z8536 (after_core z e o) ≡ true
+  after-sound : (o : Outcome Device Answer) → sound_z8536 z ≡ true → sound_of o.device ≡ true → o.device.version ≡ 2 → sound_z8536 (after_core z e o) ≡ true
   unfolding after_core reset_clear
   after-sound o s h v =
       let d = o.device in
@@ -58,8 +58,8 @@ module _ (z : Z8536) (e : Event) where
   event-sound k s =
       let f = at_register z e in
       let part = parts z s in
-      ways z e (λ (o : OutcomeZ8536). sound_z8536 o.device ≡ true) (λ _. s) (λ _ _. s)
-      (λ _ _ p. pointing-ways z e (λ (o : OutcomeZ8536). sound_z8536 o.device ≡ true) (λ _. s) (λ _ _. s) (λ _ n. pointed-sound z e s p n))
+      ways z e (λ (o : Outcome Z8536 Answer). sound_z8536 o.device ≡ true) (λ _. s) (λ _ _. s)
+      (λ _ _ p. pointing-ways z e (λ (o : Outcome Z8536 Answer). sound_z8536 o.device ≡ true) (λ _. s) (λ _ _. s) (λ _ n. pointed-sound z e s p n))
       (λ _ _ _. after-sound (event_of z.core f) s (core-sound z.core f k part.core) (core-version z.core f ∙ part.version))
 
 -- any events, one after another, from a sound record of the device's shape

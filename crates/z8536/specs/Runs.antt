@@ -6,7 +6,7 @@ use Rattle.rules.specs.declared.Event.{Event}
 use Rattle.rules.specs.declared.Answer.{Answer}
 use Rattle.theorems.specs.Ticks.{answers_as_one}
 use Rattle.z8536.specs.declared.Z8536.{Z8536}
-use Rattle.z8536.specs.declared.OutcomeZ8536.{OutcomeZ8536}
+use Rattle.rules.specs.declared.Outcome.{Outcome}
 use Rattle.z8536.specs.Z8536.{event_z8536}
 
 -- the record after an event, and its answer
@@ -39,5 +39,5 @@ abbrev pub cut_z8536 : (Z8536 → Z8536) → Z8536 → List Event → List (List
 cut_z8536 = course_cut next_z8536 answer_z8536
 
 -- events one after the other as one: the record at the end, and their answers as one
-abbrev pub one_of : RunZ8536 → OutcomeZ8536
+abbrev pub one_of : RunZ8536 → Outcome Z8536 Answer
 one_of t = record { device = t.device; answer = answers_as_one t.answers }

@@ -2,13 +2,14 @@
 -- Assumes nothing.
 use Rattle.std.specs.Prelude.{ℕ, ◌%◌, Bool, true, false, not, ◌&&◌, ◌||◌, ltb, leb, if◌then◌else◌, ◌==◌}
 use Rattle.rules.specs.declared.Event.{Event}
+use Rattle.rules.specs.declared.Device.{Device}
+use Rattle.rules.specs.declared.Answer.{Answer}
 use Rattle.rules.specs.declared.Outcome.{Outcome}
 use Rattle.rules.specs.Record.{register_count, fresh_of}
 use Rattle.rules.specs.Registers.{reset}
 use Rattle.rules.specs.Sound.{only, sound_of}
 use Rattle.rules.specs.Events.{is_w, is_r, unknown, too_large, code_of, effect, answer_of, unsound_answer, event_of}
 use Rattle.z8536.specs.declared.Z8536.{Z8536}
-use Rattle.z8536.specs.declared.OutcomeZ8536.{OutcomeZ8536}
 
 -- ---- the record
 -- "Reset clears pointer and state."
@@ -60,7 +61,7 @@ unfoldable pub ends : Event → ℕ → Bool
 ends e code = controls e && (code == 0 || code == 3 || code == 4 || code == 10 || code == 11)
 
 -- the record after an event of which this came in the core; "Reset clears pointer and state."
-unfoldable pub after_core : Z8536 → Event → Outcome → Z8536
+unfoldable pub after_core : Z8536 → Event → Outcome Device Answer → Z8536
 after_core z e o =
     if reset o.device then record { core = o.device; pointer = 0; pointed = false } else
     record { core = o.device; pointer = z.pointer; pointed = z.pointed && not (ends e o.answer.code) }
@@ -86,23 +87,23 @@ code_z8536 z e =
 
 -- ---- the event
 -- an answer with nothing done in the core: its lines as they stand
-unfoldable pub stands : ℕ → Z8536 → OutcomeZ8536
+unfoldable pub stands : ℕ → Z8536 → Outcome Z8536 Answer
 stands code z = record { device = z; answer = answer_of code (effect z.core 0) }
 
 -- a control write that "sets a pointer .. and steps nothing"
-unfoldable pub pointing : Z8536 → Event → OutcomeZ8536
+unfoldable pub pointing : Z8536 → Event → Outcome Z8536 Answer
 pointing z e =
     if ltb 255 e.b then stands 5 z else
     if no_pointer e then stands 2 z else
     stands 0 (record { core = z.core; pointer = pointer_of e; pointed = true })
 
 -- "each access answers as the Z8036 event at that register", and so does any other event
-unfoldable pub accessed : Z8536 → Event → OutcomeZ8536
+unfoldable pub accessed : Z8536 → Event → Outcome Z8536 Answer
 accessed z e =
     let o = event_of z.core (at_register z e) in
     record { device = after_core z e o; answer = o.answer }
 
-unfoldable pub event_z8536 : Z8536 → Event → OutcomeZ8536
+unfoldable pub event_z8536 : Z8536 → Event → Outcome Z8536 Answer
 event_z8536 z e =
     if not (sound_z8536 z) then record { device = z; answer = unsound_answer } else
     if no_address e then stands 2 z else

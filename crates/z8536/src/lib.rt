@@ -5,7 +5,7 @@
 ghost use Rattle.std.specs.Prelude.{◌≡◌};
 ghost use Rattle.z8536.specs.Z8536.{fresh_z8536, reset_clear, sound_z8536};
 
-use rules::{Answer, Device};
+use rules::Device;
 
 // The device. `core` is the Z8036's record; `pointer` the register pointed to last, and `pointed` that it was set just now.
 #[derive(Clone, Copy)]
@@ -29,13 +29,6 @@ impl Z8536 {
             pointed: false,
         }
     }
-}
-
-// What an event hands back.
-#[derive(Clone, Copy)]
-pub struct OutcomeZ8536 {
-    pub device: Z8536,
-    pub answer: Answer,
 }
 
 // Whether pointer and state are clear if the device is in reset.

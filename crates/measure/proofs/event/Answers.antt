@@ -1,4 +1,6 @@
 use Rattle.std.proofs.Common.{sym, ap, ◌∙◌}
+use Rattle.rules.specs.declared.Device.{Device}
+use Rattle.rules.specs.declared.Answer.{Answer}
 use Rattle.rules.specs.declared.Outcome.{Outcome}
 use Rattle.measure.specs.declared.Measure.{Measure}
 use Rattle.measure.specs.Measure.{beside}
@@ -9,7 +11,7 @@ pub accepted-r-requires : goal.accepted-r-requires
 accepted-r-requires c =
     let p = sym c.is_past.ensures ∙ c.if-is_past.false in
     let q = c.event-o.ensures in
-    (code-of _ _ _ q ∙ c.if-answer-eq0.true, p, ap (λ (o : Outcome). o.device) q)
+    (code-of _ _ _ q ∙ c.if-answer-eq0.true, p, ap (λ (o : Outcome Device Answer). o.device) q)
 
 pub returns-then-answer-eq0 : goal.returns-then-answer-eq0
 returns-then-answer-eq0 c =

@@ -5,7 +5,9 @@ use native.Mathlib.Omega.{arith}
 use borrow.Author.Tests.{ltb-true}
 use lib.ListN.{length-drop}
 use Rattle.basics.proofs.Tests.{both}
-use Rattle.chip.specs.declared.OutcomeChip.{OutcomeChip}
+use Rattle.chip.specs.declared.Chip.{Chip}
+use Rattle.rules.specs.declared.Answer.{Answer}
+use Rattle.rules.specs.declared.Outcome.{Outcome}
 use Rattle.chip.specs.Chips.{event_chip}
 use Rattle.chip.proofs.Kept.{known-chip}
 use Rattle.lines.specs.Lines.{event_in, line_of}
@@ -24,7 +26,7 @@ returns-then-next-a c =
     let o : c.known-o.result ≡ told a read measured =
     c.known-o.ensures ∙ known-chip _ a.device _ c.requires
     ∙ ap (event_chip a.device) (c.event_of.ensures ∙ ap (λ (n : ℕ). event_in (line_of (take n m))) long) in
-    let n = c.agreed_to-next.ensures ∙ ap (λ (x : OutcomeChip). agreed_to x.answer measured a.board) o in
+    let n = c.agreed_to-next.ensures ∙ ap (λ (x : Outcome Chip Answer). agreed_to x.answer measured a.board) o in
     let tests = both _ _ c.if-e-read.true in
     let inside : c.line_end-e.result < length read = ltb-true _ _ tests.0 in
     let e = ap (λ (k : ℕ). k + 1) c.line_end-e.ensures in
@@ -41,7 +43,7 @@ returns-else-next-a c =
     let o : c.known-o.result ≡ told a read measured =
     c.known-o.ensures ∙ known-chip _ a.device _ c.requires
     ∙ ap (event_chip a.device) (c.event_of.ensures ∙ ap (λ (n : ℕ). event_in (line_of (take n m))) long) in
-    let n = c.agreed_to-next.ensures ∙ ap (λ (x : OutcomeChip). agreed_to x.answer measured a.board) o in
+    let n = c.agreed_to-next.ensures ∙ ap (λ (x : Outcome Chip Answer). agreed_to x.answer measured a.board) o in
     stays a read measured (sym n ∙ c.if-next-a.false)
 
 pub returns-else-e-read : goal.returns-else-e-read
