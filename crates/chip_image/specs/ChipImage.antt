@@ -2,13 +2,13 @@
 -- Assumes nothing.
 use Rattle.std.specs.Prelude.{ℕ, Bool, List, get_or, if◌then◌else◌, ◌==◌}
 use Rattle.bodies.specs.Layout.{layout3, layout_of, length_of}
+use Rattle.rules.specs.declared.Device.{Device}
+use Rattle.z8536.specs.declared.Z8536.{Z8536}
 use Rattle.image.specs.declared.Restored.{Restored}
-use Rattle.image.specs.declared.RestoredZ8536.{RestoredZ8536}
 use Rattle.image.specs.Image.{save_code, saved_of, restored_of}
 use Rattle.image.specs.Pointed.{save_code_z8536, saved_z8536, restored_z8536}
 use Rattle.chip.specs.declared.Chip.{Chip}
 use Rattle.chip.specs.Chips.{of_z8036, of_z8536, core_of}
-use Rattle.chip_image.specs.declared.RestoredChip.{RestoredChip}
 
 -- how long its image is
 unfoldable pub length_chip : Chip → ℕ
@@ -25,11 +25,11 @@ saved_chip c e = if c.z8536 then saved_z8536 c.device e else saved_of (core_of c
 abbrev pub tells_z8536 : List ℕ → Bool
 tells_z8536 s = get_or s 0 0 == 3
 
-abbrev pub restored_as_z8036 : Restored → RestoredChip
+abbrev pub restored_as_z8036 : Restored Device → Restored Chip
 restored_as_z8036 r = record { code = r.code; device = of_z8036 r.device }
 
-abbrev pub restored_as_z8536 : RestoredZ8536 → RestoredChip
+abbrev pub restored_as_z8536 : Restored Z8536 → Restored Chip
 restored_as_z8536 r = record { code = r.code; device = of_z8536 r.device }
 
-unfoldable pub restored_chip : List ℕ → RestoredChip
+unfoldable pub restored_chip : List ℕ → Restored Chip
 restored_chip s = if tells_z8536 s then restored_as_z8536 (restored_z8536 s) else restored_as_z8036 (restored_of s)

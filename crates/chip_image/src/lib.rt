@@ -5,15 +5,9 @@ ghost use Rattle.std.specs.Prelude.{◌≡◌, length};
 ghost use Rattle.chip_image.specs.ChipImage.{length_chip, save_code_chip, saved_chip, restored_chip};
 
 use chip::Chip;
+use image::Restored;
 use rules::Device;
 use z8536::Z8536;
-
-// What a restore answers.
-#[derive(Clone, Copy)]
-pub struct RestoredChip {
-    pub code: u8,
-    pub device: Chip,
-}
 
 // How long the image of a device is.
 #[tactic(auto, unfolding(crate::specs::ChipImage::length_chip))]
@@ -41,18 +35,18 @@ pub fn save(c: Chip, buf: &mut [u8]) -> u8
 
 // Restores the device of an image; its first byte tells which. A refused restore gives the fresh one.
 #[tactic(auto, unfolding(crate::specs::ChipImage::restored_chip))]
-pub fn restore(s: &[u8]) -> RestoredChip
+pub fn restore(s: &[u8]) -> Restored<Chip>
     ensures { result ≡ restored_chip s.now }
 {
     if basics::byte_at(s, 0) == 3 {
         let r = image::restore_z8536(s);
-        return RestoredChip {
+        return Restored {
             code: r.code,
             device: Chip::of_z8536(r.device),
         };
     }
     let r = image::restore(s);
-    RestoredChip {
+    Restored {
         code: r.code,
         device: Chip::of_z8036(r.device),
     }

@@ -18,7 +18,7 @@ use Rattle.rules.specs.Record.{fresh_of}
 use Rattle.ctc_rules.specs.declared.Ctc.{Ctc}
 use Rattle.ctc_rules.specs.Record.{fresh_ctc}
 use Rattle.ctc_rules.specs.Sound.{sound_ctc}
-use Rattle.ctc_image.specs.declared.CtcRestored.{CtcRestored}
+use Rattle.image.specs.declared.Restored.{Restored}
 use Rattle.ctc_image.specs.Layout.{layout_ctc, channel_bytes, channels_body, rest_body, image_ctc, ctc_in, clear_image}
 use Rattle.ctc_image.specs.Image.{save_code_ctc, saved_ctc, refused_ctc, accepted_ctc, restored_ctc}
 
@@ -68,7 +68,7 @@ module _ (d : Ctc) (e : List ℕ) where
   saved-rest = past (eqb (save_code_ctc d (length e)) 0)
 
 -- ---- restore, by whether an image is shorter than its table, its table, its length, and its bodies
-abbrev restores_ctc : Bool → Bool → Bool → Bool → Ctc → CtcRestored
+abbrev restores_ctc : Bool → Bool → Bool → Bool → Ctc → Restored Ctc
 restores_ctc short table long good d =
     cond short (refused_ctc 7)
     (cond (not table) (refused_ctc 8) (cond (not long) (refused_ctc 7) (cond (not good) (refused_ctc 9) (record { code = 0; device = d }))))
@@ -107,7 +107,7 @@ module _ (s : List ℕ) where
   answered = refl
 
   code_is : (restored_ctc s).code ≡ (restores short table long good_bodies fresh_of).code
-  code_is = ap (λ (r : CtcRestored). r.code) answered ∙ code-as short table long good_bodies (ctc_in s)
+  code_is = ap (λ (r : Restored Ctc). r.code) answered ∙ code-as short table long good_bodies (ctc_in s)
 
   enough : length s ≡ 41 → short ≡ false
   enough n = le-ltb (length s) 10 (omega arith)
@@ -141,10 +141,10 @@ module _ (s : List ℕ) where
   -- a refused restore gives the fresh device, an accepted one the record that its bodies tell
   pub refused-fresh : ((restored_ctc s).code ≡ 0 → ⊥) → (restored_ctc s).device ≡ fresh_ctc
   refused-fresh h =
-      ap (λ (r : CtcRestored). r.device) answered
-      ∙ failed short table long good_bodies (ctc_in s) (λ e. h (ap (λ (r : CtcRestored). r.code) answered ∙ e))
+      ap (λ (r : Restored Ctc). r.device) answered
+      ∙ failed short table long good_bodies (ctc_in s) (λ e. h (ap (λ (r : Restored Ctc). r.code) answered ∙ e))
 
   pub accepted-told : (restored_ctc s).code ≡ 0 → (restored_ctc s).device ≡ ctc_in s
   accepted-told h =
       let p = restore-0.0 h in
-      ap (λ (r : CtcRestored). r.device) answered ∙ simp (enough p.1, alike _ _ p.0, eq-eqb _ _ p.1, p.2)
+      ap (λ (r : Restored Ctc). r.device) answered ∙ simp (enough p.1, alike _ _ p.0, eq-eqb _ _ p.1, p.2)

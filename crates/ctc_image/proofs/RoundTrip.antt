@@ -21,7 +21,7 @@ use Rattle.ctc_rules.specs.declared.Channel.{Channel}
 use Rattle.ctc_rules.specs.declared.Ctc.{Ctc}
 use Rattle.ctc_rules.specs.Record.{FourChannels, four_of, channel_at}
 use Rattle.ctc_rules.specs.Sound.{sound_ctc}
-use Rattle.ctc_image.specs.declared.CtcRestored.{CtcRestored}
+use Rattle.image.specs.declared.Restored.{Restored}
 use Rattle.ctc_image.specs.Layout.{layout_ctc, channel_bytes, channels_body, rest_body, image_ctc, channel_byte, channel_in, told_ctc, channel_clear, clear_ctc, ctc_in, clear_image}
 use Rattle.ctc_image.specs.Image.{save_code_ctc, saved_ctc, accepted_ctc, restored_ctc}
 use Rattle.ctc_image.proofs.Codes.{image-length, save-0, saved-whole, restore-0, accepted-told}
@@ -88,7 +88,7 @@ module _ (d : Ctc) where
 
 -- two sound records that have one image are equal
 pub one-record : (d e : Ctc) → FourChannels d → sound_ctc d ≡ true → FourChannels e → sound_ctc e ≡ true → image_ctc d ≡ image_ctc e → d ≡ e
-one-record d e f s g t h = ap (λ (r : CtcRestored). r.device) (sym (restored-image d f s) ∙ ap restored_ctc h ∙ restored-image e g t)
+one-record d e f s g t h = ap (λ (r : Restored Ctc). r.device) (sym (restored-image d f s) ∙ ap restored_ctc h ∙ restored-image e g t)
 
 -- ---- in and out
 state-made : (x : ℕ) → x < 256 → ltb x 2 ≡ true → cond (eqb x 1) 1 0 ≡ x

@@ -6,7 +6,7 @@ use Rattle.image.specs.Image.{agree}
 use Rattle.ctc_rules.specs.declared.Ctc.{Ctc}
 use Rattle.ctc_rules.specs.Record.{fresh_ctc}
 use Rattle.ctc_rules.specs.Sound.{sound_ctc}
-use Rattle.ctc_image.specs.declared.CtcRestored.{CtcRestored}
+use Rattle.image.specs.declared.Restored.{Restored}
 use Rattle.ctc_image.specs.Layout.{layout_ctc, image_ctc, ctc_in, clear_image}
 
 -- ---- save: "9, then 7", for a buffer of n bytes
@@ -21,15 +21,15 @@ unfoldable pub saved_ctc : Ctc → List ℕ → List ℕ
 saved_ctc d e = if save_code_ctc d (length e) == 0 then image_ctc d ++ drop (length_of layout_ctc) e else e
 
 -- ---- restore: "A refused restore gives the fresh device."
-abbrev pub refused_ctc : ℕ → CtcRestored
+abbrev pub refused_ctc : ℕ → Restored Ctc
 refused_ctc c = record { code = c; device = fresh_ctc }
 
 -- "9": "bodies break the soundness rules"
-unfoldable pub accepted_ctc : Bool → Ctc → CtcRestored
+unfoldable pub accepted_ctc : Bool → Ctc → Restored Ctc
 accepted_ctc clear d = if not (clear && sound_ctc d) then refused_ctc 9 else record { code = 0; device = d }
 
 -- W-205: "7 for an image shorter than its version's table .., then 8, then 7 for a length other than the version's, then 9"
-unfoldable pub restored_ctc : List ℕ → CtcRestored
+unfoldable pub restored_ctc : List ℕ → Restored Ctc
 restored_ctc s =
     if ltb (length s) (contents_len layout_ctc) then refused_ctc 7 else
     if not (agree (take (contents_len layout_ctc) s) (contents_of layout_ctc)) then refused_ctc 8 else

@@ -9,13 +9,7 @@ ghost use Rattle.ctc_image.specs.Layout.{told_ctc, clear_ctc};
 ghost use Rattle.ctc_image.specs.Image.{save_code_ctc, saved_ctc, refused_ctc, accepted_ctc, restored_ctc};
 
 use ctc_rules::Ctc;
-
-// What a restore answers.
-#[derive(Clone, Copy)]
-pub struct CtcRestored {
-    pub code: u8,
-    pub device: Ctc,
-}
+use image::Restored;
 
 // What an image begins with: 11H, 02H, and for each body its number, its place (two bytes, high first) and its length.
 pub(crate) const TABLE: [u8; 10] = [0x11, 2, 1, 0, 10, 28, 2, 0, 38, 3];
@@ -35,10 +29,10 @@ pub fn save(d: Ctc, buf: &mut [u8]) -> u8
     0
 }
 
-fn refuse(code: u8) -> CtcRestored
+fn refuse(code: u8) -> Restored<Ctc>
     ensures { result ≡ refused_ctc code }
 {
-    CtcRestored {
+    Restored {
         code: code,
         device: Ctc::fresh(),
     }
@@ -46,20 +40,20 @@ fn refuse(code: u8) -> CtcRestored
 
 // The record of two bodies, if their unused bits are 0 and it is sound.
 #[tactic(auto, unfolding(crate::specs::Image::accepted_ctc))]
-fn accept(channels: &[u8], lines: &[u8]) -> CtcRestored
+fn accept(channels: &[u8], lines: &[u8]) -> Restored<Ctc>
     ensures { result ≡ accepted_ctc (clear_ctc channels.now lines.now) (told_ctc channels.now lines.now) }
 {
     let d = bodies_in::record(channels, lines);
     if !(bodies_in::clear(channels, lines) & ctc_rules::sound(d)) {
         return refuse(9);
     }
-    CtcRestored { code: 0, device: d }
+    Restored { code: 0, device: d }
 }
 
 // Restores the record of an image. Codes: 7 for an image shorter than its table, 8 for another table, 7 for another length, 9 for bodies
 // that are not sound, else 0. A refused restore gives the fresh device.
 #[tactic(auto, unfolding(crate::specs::Image::restored_ctc))]
-pub fn restore(s: &[u8]) -> CtcRestored
+pub fn restore(s: &[u8]) -> Restored<Ctc>
     ensures { result ≡ restored_ctc s.now }
 {
     let table = TABLE;

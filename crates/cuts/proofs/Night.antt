@@ -32,7 +32,7 @@ module _ (buffer : List ℕ) (roomy : Roomy buffer) where
   -- a sound record is in the morning what it was in the evening
   pub night-keeps : (d : Device) → Shaped d → sound_of d ≡ true → night_of buffer d ≡ d
   unfolding night_of
-  night-keeps d h s = ap (λ (r : Restored). r.device) (restored-saved d buffer h ((save-0 d (length buffer)).1 (s, roomy d)))
+  night-keeps d h s = ap (λ (r : Restored Device). r.device) (restored-saved d buffer h ((save-0 d (length buffer)).1 (s, roomy d)))
 
   -- the night is not seen: any events from any sound record, cut anywhere, with a night at each cut, have the answers and the
   -- record at the end of the uncut events

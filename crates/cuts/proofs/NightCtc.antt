@@ -14,7 +14,7 @@ use Rattle.ctc_rules.specs.Events.{event_ctc}
 use Rattle.ctc_laws.specs.Runs.{CtcCall, run_ctc, cut_ctc, only_ticks, tick_clocks, one_ctc}
 use Rattle.ctc_laws.proofs.Runs.{unseen}
 use Rattle.ctc_laws.proofs.Demand3.{cut_apart}
-use Rattle.ctc_image.specs.declared.CtcRestored.{CtcRestored}
+use Rattle.image.specs.declared.Restored.{Restored}
 use Rattle.ctc_image.proofs.Codes.{save-0}
 use Rattle.ctc_image.proofs.RoundTrip.{restored-saved}
 use Rattle.cuts.specs.Nights.{night_ctc}
@@ -23,7 +23,7 @@ module _ (buffer : List ℕ) (room : 41 ≤ length buffer) where
   -- a sound record is in the morning what it was in the evening
   pub night-keeps : (d : Ctc) → FourChannels d → sound_ctc d ≡ true → night_ctc buffer d ≡ d
   unfolding night_ctc
-  night-keeps d h s = ap (λ (r : CtcRestored). r.device) (restored-saved d buffer h ((save-0 d (length buffer)).1 (s, room)))
+  night-keeps d h s = ap (λ (r : Restored Ctc). r.device) (restored-saved d buffer h ((save-0 d (length buffer)).1 (s, room)))
 
   -- any events and ends of service from any sound record, cut anywhere, with a night at each cut, have the answers and the record at the
   -- end of the uncut ones

@@ -14,7 +14,7 @@ use Rattle.z8536.specs.Z8536.{sound_z8536, event_z8536}
 use Rattle.z8536.specs.Runs.{run_z8536, cut_z8536, one_of}
 use Rattle.z8536.proofs.Runs.{unseen}
 use Rattle.z8536.proofs.Demand3.{cut_apart}
-use Rattle.image.specs.declared.RestoredZ8536.{RestoredZ8536}
+use Rattle.image.specs.declared.Restored.{Restored}
 use Rattle.image.proofs.PointedTrip.{restored-saved}
 use Rattle.cuts.specs.Nights.{night_z8536}
 
@@ -22,7 +22,7 @@ module _ (buffer : List ℕ) (room : 102 ≤ length buffer) where
   -- a sound record is in the morning what it was in the evening
   pub night-keeps : (z : Z8536) → Shaped z.core → sound_z8536 z ≡ true → night_z8536 buffer z ≡ z
   unfolding night_z8536
-  night-keeps z h s = ap (λ (r : RestoredZ8536). r.device) (restored-saved z buffer h s room)
+  night-keeps z h s = ap (λ (r : Restored Z8536). r.device) (restored-saved z buffer h s room)
 
   -- any events from any sound record, cut anywhere, with a night at each cut, have the answers and the record at the end of the uncut
   -- events

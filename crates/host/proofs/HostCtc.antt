@@ -12,7 +12,7 @@ use Rattle.ctc_rules.specs.declared.Ctc.{Ctc}
 use Rattle.ctc_rules.specs.Record.{fresh_ctc}
 use Rattle.ctc_laws.specs.Runs.{CtcCall, call_ctc, next_ctc, answer_ctc, record_ctc, answers_ctc}
 use Rattle.ctc_laws.proofs.Soundness.{Good, call-good, fresh-sound, fresh-shaped}
-use Rattle.ctc_image.specs.declared.CtcRestored.{CtcRestored}
+use Rattle.image.specs.declared.Restored.{Restored}
 use Rattle.ctc_image.specs.Layout.{image_ctc}
 use Rattle.ctc_image.specs.Image.{saved_ctc, restored_ctc}
 use Rattle.ctc_image.proofs.Codes.{save-0, saved-whole, restore-0}
@@ -30,11 +30,11 @@ fresh_holds = restored-image fresh_ctc fresh-shaped fresh-sound
 
 good : (s : List ℕ) (d : Ctc) → Holds s d → Good d
 good s d h =
-    let z = ap (λ (r : CtcRestored). r.code) h in
-    subst Good (ap (λ (r : CtcRestored). r.device) h) (accepted-four s z, accepted-sound s z)
+    let z = ap (λ (r : Restored Ctc). r.code) h in
+    subst Good (ap (λ (r : Restored Ctc). r.device) h) (accepted-four s z, accepted-sound s z)
 
 long : (s : List ℕ) (d : Ctc) → Holds s d → 41 ≡ length s
-long s d h = sym ((restore-0 s).0 (ap (λ (r : CtcRestored). r.code) h)).1
+long s d h = sym ((restore-0 s).0 (ap (λ (r : Restored Ctc). r.code) h)).1
 
 module _ (s : List ℕ) (d : Ctc) (e : CtcCall) (h : Holds s d) where
   next-good : Good (next_ctc d e)
@@ -51,7 +51,7 @@ module _ (s : List ℕ) (d : Ctc) (e : CtcCall) (h : Holds s d) where
       → host_ctc s (λ d. call_ctc d e) b ≡ called (answer_ctc d e).code (image_ctc (next_ctc d e)) (ctc_bytes (answer_ctc d e) ++ drop ctc_len b)
   unfolding host_ctc
   call-done b room =
-      ap (λ (r : CtcRestored). call_of r.code (call_ctc r.device e).answer.code (saved_ctc (call_ctc r.device e).device s) (ctc_bytes (call_ctc r.device e).answer) s b) h
+      ap (λ (r : Restored Ctc). call_of r.code (call_ctc r.device e).answer.code (saved_ctc (call_ctc r.device e).device s) (ctc_bytes (call_ctc r.device e).answer) s b) h
       ∙ done (answer_ctc d e).code (saved_ctc (next_ctc d e) s) (ctc_bytes (answer_ctc d e)) s b ctc_len (image_ctc (next_ctc d e)) (ctc-long (answer_ctc d e)) room overwritten
 
   -- and the next call accepts it, as that record

@@ -40,8 +40,8 @@ fresh_holds = restored-image fresh_of fresh-shaped fresh-sound
 
 good : (s : List ℕ) (d : Device) → Holds s d → Good d
 good s d h =
-    let z = ap (λ (r : Restored). r.code) h in
-    subst Good (ap (λ (r : Restored). r.device) h) (accepted-shaped s z, accepted-sound s z)
+    let z = ap (λ (r : Restored Device). r.code) h in
+    subst Good (ap (λ (r : Restored Device). r.device) h) (accepted-shaped s z, accepted-sound s z)
 
 -- a state is as long as its record's image
 in-layout : (s : List ℕ) → layout_of (device_in (layout_in s) s) ≡ layout_in s
@@ -50,8 +50,8 @@ in-layout s = of_image (λ l. layout_of (device_in l s) ≡ l) refl refl s
 
 long : (s : List ℕ) (d : Device) → Holds s d → length_of (layout_of d) ≡ length s
 long s d h =
-    let a = accepted s (ap (λ (r : Restored). r.code) h) in
-    let told = sym (ap (λ (r : Restored). r.device) h) ∙ a.is in
+    let a = accepted s (ap (λ (r : Restored Device). r.code) h) in
+    let told = sym (ap (λ (r : Restored Device). r.device) h) ∙ a.is in
     ap (λ (d : Device). length_of (layout_of d)) told ∙ ap length_of (in-layout s) ∙ sym a.long
 
 module _ (s : List ℕ) (d : Device) (e : Event) (h : Holds s d) where
@@ -72,7 +72,7 @@ module _ (s : List ℕ) (d : Device) (e : Event) (h : Holds s d) where
       → host_event s e b ≡ called (answer_to d e).code (image_of (next_of d e)) (reply_bytes (answer_to d e) ++ drop answer_len b)
   unfolding host_event
   call-done b room =
-      ap (λ (r : Restored). call_of r.code (event_of r.device e).answer.code (saved_of (event_of r.device e).device s) (reply_bytes (event_of r.device e).answer) s b) h
+      ap (λ (r : Restored Device). call_of r.code (event_of r.device e).answer.code (saved_of (event_of r.device e).device s) (reply_bytes (event_of r.device e).answer) s b) h
       ∙ done (answer_to d e).code (saved_of (next_of d e) s) (reply_bytes (answer_to d e)) s b answer_len (image_of (next_of d e)) (answer-long (answer_to d e)) room overwritten
 
   -- and the next call accepts it, as that record

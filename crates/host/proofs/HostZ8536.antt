@@ -14,7 +14,7 @@ use Rattle.z8536.specs.declared.Z8536.{Z8536}
 use Rattle.z8536.specs.Z8536.{fresh_z8536, event_z8536}
 use Rattle.z8536.specs.Runs.{next_z8536, answer_z8536, record_z8536, answers_z8536}
 use Rattle.z8536.proofs.Soundness.{Good, event-good, fresh-sound}
-use Rattle.image.specs.declared.RestoredZ8536.{RestoredZ8536}
+use Rattle.image.specs.declared.Restored.{Restored}
 use Rattle.image.specs.Pointed.{image_z8536, saved_z8536, restored_z8536}
 use Rattle.image.proofs.PointedCodes.{restore-0}
 use Rattle.image.proofs.PointedSaved.{save-0, saved-whole}
@@ -32,11 +32,11 @@ fresh_holds = restored-image fresh_z8536 fresh-shaped fresh-sound
 
 good : (s : List ℕ) (d : Z8536) → Holds s d → Good d
 good s d h =
-    let z = ap (λ (r : RestoredZ8536). r.code) h in
-    subst Good (ap (λ (r : RestoredZ8536). r.device) h) (accepted-shaped s z, accepted-sound s z)
+    let z = ap (λ (r : Restored Z8536). r.code) h in
+    subst Good (ap (λ (r : Restored Z8536). r.device) h) (accepted-shaped s z, accepted-sound s z)
 
 long : (s : List ℕ) (d : Z8536) → Holds s d → 102 ≡ length s
-long s d h = sym ((restore-0 s).0 (ap (λ (r : RestoredZ8536). r.code) h)).1
+long s d h = sym ((restore-0 s).0 (ap (λ (r : Restored Z8536). r.code) h)).1
 
 module _ (s : List ℕ) (d : Z8536) (e : Event) (h : Holds s d) where
   next-good : Good (next_z8536 d e)
@@ -53,7 +53,7 @@ module _ (s : List ℕ) (d : Z8536) (e : Event) (h : Holds s d) where
       → host_event_z8536 s e b ≡ called (answer_z8536 d e).code (image_z8536 (next_z8536 d e)) (reply_bytes (answer_z8536 d e) ++ drop answer_len b)
   unfolding host_event_z8536
   call-done b room =
-      ap (λ (r : RestoredZ8536). call_of r.code (event_z8536 r.device e).answer.code (saved_z8536 (event_z8536 r.device e).device s) (reply_bytes (event_z8536 r.device e).answer) s b) h
+      ap (λ (r : Restored Z8536). call_of r.code (event_z8536 r.device e).answer.code (saved_z8536 (event_z8536 r.device e).device s) (reply_bytes (event_z8536 r.device e).answer) s b) h
       ∙ done (answer_z8536 d e).code (saved_z8536 (next_z8536 d e) s) (reply_bytes (answer_z8536 d e)) s b answer_len (image_z8536 (next_z8536 d e)) (answer-long (answer_z8536 d e)) room overwritten
 
   -- and the next call accepts it, as that record

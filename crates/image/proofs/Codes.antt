@@ -59,7 +59,7 @@ module _ (d : Device) (n : ℕ) where
   )
 
 -- ---- restore, of an image: by whether it is shorter than its contents, its contents, its length, and its bodies
-abbrev pub restores : Bool → Bool → Bool → Bool → Device → Restored
+abbrev pub restores : Bool → Bool → Bool → Bool → Device → Restored Device
 restores short table long good d =
     cond short (refused 7)
     (cond (not table) (refused 8) (cond (not long) (refused 7) (cond (not good) (refused 9) (record { code = 0; device = d }))))

@@ -10,6 +10,7 @@ use lib.ListN.{get_or, drop}
 use lib.Seq.{get_or-take, get_or-drop}
 use Rattle.bodies.specs.Layout.{layout1, layout2, layout3, contents_of, body_in}
 use Rattle.bodies.specs.Taken.{device_in, clear_in}
+use Rattle.rules.specs.declared.Device.{Device}
 use Rattle.image.specs.declared.Restored.{Restored}
 use Rattle.image.specs.Pointed.{with_pointer, restored_z8536}
 use Rattle.image.specs.Image.{fifth_len, restored_in, restored_by}
@@ -34,7 +35,7 @@ sixth-0 s = get_or-take 2 (drop 100 s) 0 0 (lit< tt) ∙ get_or-drop 100 s 0 0
 sixth-1 : (s : List ℕ) → get_or (body_in layout3 6 s) 1 0 ≡ get_or s 101 0
 sixth-1 s = get_or-take 2 (drop 100 s) 1 0 (lit< tt) ∙ get_or-drop 100 s 1 0
 
-pub sixth-read : (r : Restored) (s : List ℕ) → with_pointer r (get_or s 100 0 ∷ get_or s 101 0 ∷ []) ≡ with_pointer r (body_in layout3 6 s)
+pub sixth-read : (r : Restored Device) (s : List ℕ) → with_pointer r (get_or s 100 0 ∷ get_or s 101 0 ∷ []) ≡ with_pointer r (body_in layout3 6 s)
 unfolding with_pointer
 sixth-read r s = simp (sixth-0, sixth-1)
 

@@ -18,7 +18,7 @@ use Rattle.z8536.specs.Z8536.{fresh_z8536, sound_z8536}
 use Rattle.z8536.proofs.Parts.{parts}
 use Rattle.bodies.specs.Layout.{Layout, layout1, layout3, layout_in, contents_len, contents_of, body_in}
 use Rattle.bodies.specs.Taken.{pointer_in, pointed_in, pointer_clear, device_in, clear_in}
-use Rattle.image.specs.declared.RestoredZ8536.{RestoredZ8536}
+use Rattle.image.specs.declared.Restored.{Restored}
 use Rattle.image.specs.Image.{agree, accepted_of, restored_in, restored_of}
 use Rattle.image.specs.Pointed.{refused_z8536, other_code, with_pointer, restored_z8536}
 use Rattle.image.proofs.Agree.{same, alike, unlike, differ}
@@ -26,7 +26,7 @@ use Rattle.image.proofs.Codes.{restores, told-7, told-8, told-9, told-0}
 use Rattle.image.proofs.Codes.{restore-0 as core-0}
 
 -- by whether an image is shorter than its contents, its contents, its length, and its six bodies
-abbrev restores_z8536 : Bool → Bool → Bool → Bool → Z8536 → RestoredZ8536
+abbrev restores_z8536 : Bool → Bool → Bool → Bool → Z8536 → Restored Z8536
 restores_z8536 short table long good z =
     cond short (refused_z8536 7)
     (cond (not table) (refused_z8536 8) (cond (not long) (refused_z8536 7) (cond (not good) (refused_z8536 9) (record { code = 0; device = z }))))
@@ -105,7 +105,7 @@ module _ (s : List ℕ) where
     other-refused = simp (ne_eqb (get_or s 0 0) 3 other)
 
     other-code : (restored_z8536 s).code ≡ other_code s
-    other-code = ap (λ (r : RestoredZ8536). r.code) other-refused
+    other-code = ap (λ (r : Restored Z8536). r.code) other-refused
 
     -- "7 for an image shorter than its version's table .., then 8"
     pub other-7 : ((restored_z8536 s).code ≡ 7) ↔ (length s < 18)
@@ -123,7 +123,7 @@ module _ (s : List ℕ) where
     answered = (simp (eq-eqb (get_or s 0 0) 3 first)) ∙ whole
 
     code_is : (restored_z8536 s).code ≡ (restores short table long good_bodies fresh_of).code
-    code_is = ap (λ (r : RestoredZ8536). r.code) answered ∙ code-as short table long good_bodies told
+    code_is = ap (λ (r : Restored Z8536). r.code) answered ∙ code-as short table long good_bodies told
 
     pub restore-7 : ((restored_z8536 s).code ≡ 7) ↔ ((length s < 26) ⊎ ((26 ≤ length s) × (take 26 s ≡ contents_of layout3) × (length s ≢ 102)))
     restore-7 = (
@@ -171,15 +171,15 @@ module _ (s : List ℕ) where
   pub accepted-told : (restored_z8536 s).code ≡ 0 → (restored_z8536 s).device ≡ told
   accepted-told h =
       let p = restore-0.0 h in
-      ap (λ (r : RestoredZ8536). r.device) (answered (begins p.0)) ∙ simp (enough p.1, alike _ _ p.0, eq-eqb _ _ p.1, p.2)
+      ap (λ (r : Restored Z8536). r.device) (answered (begins p.0)) ∙ simp (enough p.1, alike _ _ p.0, eq-eqb _ _ p.1, p.2)
 
   -- "A refused restore gives the fresh device."
   fresh-by : ((restored_z8536 s).code ≢ 0) → (t : Bool) → eqb (get_or s 0 0) 3 ≡ t → (restored_z8536 s).device ≡ fresh_z8536
   fresh-by h true e =
       let is = answered (eqb-true _ _ e) in
-      ap (λ (r : RestoredZ8536). r.device) is
-      ∙ failed short table long good_bodies told (λ c. h (ap (λ (r : RestoredZ8536). r.code) is ∙ c))
-  fresh-by h false e = ap (λ (r : RestoredZ8536). r.device) (other-refused (eqb-false _ _ e))
+      ap (λ (r : Restored Z8536). r.device) is
+      ∙ failed short table long good_bodies told (λ c. h (ap (λ (r : Restored Z8536). r.code) is ∙ c))
+  fresh-by h false e = ap (λ (r : Restored Z8536). r.device) (other-refused (eqb-false _ _ e))
 
   pub refused-fresh : (restored_z8536 s).code ≢ 0 → (restored_z8536 s).device ≡ fresh_z8536
   refused-fresh h = fresh-by h _ refl

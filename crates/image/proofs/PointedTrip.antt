@@ -22,7 +22,6 @@ use Rattle.bodies.proofs.Entries.{bytes-part, part_length}
 use Rattle.bodies.proofs.PointerLaw.{pointer-written}
 use Rattle.bodies.proofs.Whole.{shaped}
 use Rattle.image.specs.declared.Restored.{Restored}
-use Rattle.image.specs.declared.RestoredZ8536.{RestoredZ8536}
 use Rattle.image.specs.Image.{accepted_of, restored_in, restored_of}
 use Rattle.image.specs.Pointed.{image_z8536, saved_z8536, with_pointer, restored_z8536}
 use Rattle.image.proofs.Numbers.{begins-3}
@@ -76,7 +75,7 @@ module _ (z : Z8536) where
 pub one-record : (z y : Z8536) → Shaped z.core → sound_z8536 z ≡ true → Shaped y.core → sound_z8536 y ≡ true
     → image_z8536 z ≡ image_z8536 y → z ≡ y
 one-record z y f s g t h =
-    ap (λ (r : RestoredZ8536). r.device) (sym (restored-image z f s) ∙ ap restored_z8536 h ∙ restored-image y g t)
+    ap (λ (r : Restored Z8536). r.device) (sym (restored-image z f s) ∙ ap restored_z8536 h ∙ restored-image y g t)
 
 -- ---- in and out: what an accepted image has met
 module _ (s : List ℕ) (h : (restored_z8536 s).code ≡ 0) where
@@ -113,8 +112,8 @@ module _ (s : List ℕ) (h : (restored_z8536 s).code ≡ 0) where
 
   inner-written : Bytes s → image_of d ≡ inner s
   inner-written b =
-      ap (λ (r : Restored). image_of r.device) (sym inside)
-      ∙ core-written (inner s) (inner-bytes s b) (ap (λ (r : Restored). r.code) inside)
+      ap (λ (r : Restored Device). image_of r.device) (sym inside)
+      ∙ core-written (inner s) (inner-bytes s b) (ap (λ (r : Restored Device). r.code) inside)
 
   -- contents, five bodies and the sixth are the whole
   pieces : take 26 s ++ part 26 74 s ++ part 100 2 s ≡ s

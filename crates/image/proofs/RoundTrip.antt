@@ -57,7 +57,7 @@ accepted-shaped s h = subst Shaped (sym (accepted s h).is) (shaped (layout_in s)
 -- two sound records that have one image are equal, also in their version
 pub one-record : (d e : Device) → Shaped d → sound_of d ≡ true → Shaped e → sound_of e ≡ true → image_of d ≡ image_of e → d ≡ e
 one-record d e f s g t h =
-    ap (λ (r : Restored). r.device) (sym (restored-image d f s) ∙ ap restored_of h ∙ restored-image e g t)
+    ap (λ (r : Restored Device). r.device) (sym (restored-image d f s) ∙ ap restored_of h ∙ restored-image e g t)
 
 -- a refused restore gives the fresh device
 pub refused-fresh : (s : List ℕ) → ((restored_of s).code ≡ 0 → ⊥) → (restored_of s).device ≡ fresh_of

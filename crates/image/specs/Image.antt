@@ -28,23 +28,23 @@ unfoldable pub saved_of : Device → List ℕ → List ℕ
 saved_of d e = if save_code d (length e) == 0 then image_of d ++ drop (length_of (layout_of d)) e else e
 
 -- ---- restore: "A refused restore gives the fresh device."
-abbrev pub refused : ℕ → Restored
+abbrev pub refused : ℕ → Restored Device
 refused c = record { code = c; device = fresh_of }
 
 -- "9": "bodies break the soundness rules"
-unfoldable pub accepted_of : Bool → Device → Restored
+unfoldable pub accepted_of : Bool → Device → Restored Device
 accepted_of clear d = if not (clear && sound_of d) then refused 9 else record { code = 0; device = d }
 
 -- paper 02, W-205: "restore tests 7 for an image shorter than its version's table .., then 8, then 7 for a length other than the
 -- version's, then 9": an image read in the layout l
-unfoldable pub restored_in : Layout → List ℕ → Restored
+unfoldable pub restored_in : Layout → List ℕ → Restored Device
 restored_in l s =
     if ltb (length s) (contents_len l) then refused 7 else
     if not (agree (take (contents_len l) s) (contents_of l)) then refused 8 else
     if not (length s == length_of l) then refused 7 else
     accepted_of (clear_in l s) (device_in l s)
 
-unfoldable pub restored_of : List ℕ → Restored
+unfoldable pub restored_of : List ℕ → Restored Device
 restored_of s = restored_in (layout_in s) s
 
 -- ---- an image in numbers, with contents of any length: the bodies of a record behind them, and how long those are
@@ -59,7 +59,7 @@ laid_by contents d =
     contents ++ registers_body d ++ counts_body d ++ pins_body d ++ lines_body d ++ (if d.version == 1 then [] else transfers_body d)
 
 -- an image with these contents, of a record of that version, and with `more` bytes behind its bodies
-unfoldable pub restored_by : ℕ → List ℕ → ℕ → List ℕ → Restored
+unfoldable pub restored_by : ℕ → List ℕ → ℕ → List ℕ → Restored Device
 restored_by version contents more s =
     let n = length contents in
     let registers = part n 48 s in

@@ -10,19 +10,13 @@ ghost use Rattle.image.specs.Image.{agree, fifth_len, bodies_len, laid_by, save_
 
 pub use pointed::{restore_z8536, save_z8536};
 use rules::Device;
-use z8536::Z8536;
 
-// What a restore answers, of either device.
+// What a restore answers: its code, and the device, which is the fresh one where the code is not 0.
+// Stays: a Result has no place for the fresh device that paper 01 gives a refused restore (image/Image.restored_of).
 #[derive(Clone, Copy)]
-pub struct Restored {
+pub struct Restored<D> {
     pub code: u8,
-    pub device: Device,
-}
-
-#[derive(Clone, Copy)]
-pub struct RestoredZ8536 {
-    pub code: u8,
-    pub device: Z8536,
+    pub device: D,
 }
 
 // Whether two slices hold the same bytes.
@@ -97,7 +91,7 @@ pub fn save(d: Device, buf: &mut [u8]) -> u8
     0
 }
 
-fn refuse(code: u8) -> Restored
+fn refuse(code: u8) -> Restored<Device>
     ensures { result ≡ refused code }
 {
     Restored {
@@ -115,7 +109,7 @@ fn accept(
     pins: &[u8],
     lines: &[u8],
     transfers: &[u8],
-) -> Restored
+) -> Restored<Device>
     ensures { result ≡ accepted_of
         (unused_clear registers.now counts.now pins.now lines.now transfers.now
         && states_agree registers.now transfers.now)
@@ -133,7 +127,7 @@ fn accept(
 
 // An image with these contents, of a record of a version; behind its bodies stand `more` bytes.
 #[tactic(auto, unfolding(crate::specs::Image::restored_by))]
-pub(crate) fn restore_by(version: u8, contents: &[u8], more: u8, s: &[u8]) -> Restored
+pub(crate) fn restore_by(version: u8, contents: &[u8], more: u8, s: &[u8]) -> Restored<Device>
     ensures { result ≡ restored_by version contents.now more s.now }
 {
     let n = contents.len();
@@ -164,7 +158,7 @@ pub(crate) fn restore_by(version: u8, contents: &[u8], more: u8, s: &[u8]) -> Re
 // Restores the record of an image of version 1 or 2. Codes: 7 for an image shorter than its version's contents, 8 for other contents,
 // 7 for another length, 9 for bodies that are not sound, else 0. A refused restore gives the fresh device.
 #[tactic(auto, unfolding(crate::specs::Image::restored_of, bodies::specs::Layout::layout_in))]
-pub fn restore(s: &[u8]) -> Restored
+pub fn restore(s: &[u8]) -> Restored<Device>
     ensures { result ≡ restored_of s.now }
 {
     if basics::byte_at(s, 0) == 2 {

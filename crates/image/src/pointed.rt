@@ -3,7 +3,8 @@ ghost use Rattle.std.specs.Prelude.{◌≡◌, ◌++◌, ◌≤◌, length, drop
 ghost use Rattle.bodies.specs.Layout.{layout3, length_of};
 ghost use Rattle.image.specs.Pointed.{image_z8536, save_code_z8536, saved_z8536, refused_z8536, other_code, with_pointer, restored_z8536};
 
-use crate::{Restored, RestoredZ8536, contents};
+use crate::{Restored, contents};
+use rules::Device;
 use z8536::Z8536;
 
 // The image of a record of version 2 and a pointer, into the first 102 bytes of a buffer.
@@ -32,10 +33,10 @@ pub fn save_z8536(z: Z8536, buf: &mut [u8]) -> u8
     0
 }
 
-fn refuse(code: u8) -> RestoredZ8536
+fn refuse(code: u8) -> Restored<Z8536>
     ensures { result ≡ refused_z8536 code }
 {
-    RestoredZ8536 {
+    Restored {
         code: code,
         device: Z8536::fresh(),
     }
@@ -54,7 +55,7 @@ fn other_code(s: &[u8]) -> u8
 
 // A core that was restored, with the sixth body beside it.
 #[tactic(auto, unfolding(crate::specs::Pointed::with_pointer))]
-fn with_pointer(r: Restored, b: &[u8]) -> RestoredZ8536
+fn with_pointer(r: Restored<Device>, b: &[u8]) -> Restored<Z8536>
     ensures { result ≡ with_pointer r b.now }
 {
     if r.code != 0 {
@@ -73,12 +74,12 @@ fn with_pointer(r: Restored, b: &[u8]) -> RestoredZ8536
     if !z8536::sound(z) {
         return refuse(9);
     }
-    RestoredZ8536 { code: 0, device: z }
+    Restored { code: 0, device: z }
 }
 
 // Restores a Z8536 from its image, with the codes of the Z8036's restore in their order. A refused restore gives the fresh device.
 #[tactic(auto, unfolding(crate::specs::Pointed::restored_z8536))]
-pub fn restore_z8536(s: &[u8]) -> RestoredZ8536
+pub fn restore_z8536(s: &[u8]) -> Restored<Z8536>
     ensures { result ≡ restored_z8536 s.now }
 {
     if basics::byte_at(s, 0) != 3 {
