@@ -10,6 +10,7 @@ use crate::Loaded;
 use chip::Chip;
 use console::print;
 use ctc_rules::Ctc;
+use phrases::Trouble;
 use rules::Device;
 use std::fs::{File, OpenFile, OpenOptions};
 use std::io::{ErrorKind, Read, Write};
@@ -37,15 +38,14 @@ const IS_A_FOLDER: i32 = 21;
 
 const NO_SPACE: i32 = 28;
 
-// The place of an error among those that have words of their own.
-fn why(error: &io::Error) -> usize {
+fn why(error: &io::Error) -> Trouble {
     match error.raw_os_error() {
-        Some(NO_ENTRY) => 0,
-        Some(NO_ACCESS) => 1,
-        Some(IS_A_FOLDER) => 2,
-        Some(NOT_A_FOLDER) => 3,
-        Some(NO_SPACE) => 4,
-        _ => 5,
+        Some(NO_ENTRY) => Trouble::NoEntry,
+        Some(NO_ACCESS) => Trouble::NotPermitted,
+        Some(IS_A_FOLDER) => Trouble::Folder,
+        Some(NOT_A_FOLDER) => Trouble::NotInFolder,
+        Some(NO_SPACE) => Trouble::NoSpace,
+        _ => Trouble::Other,
     }
 }
 

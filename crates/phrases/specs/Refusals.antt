@@ -3,6 +3,8 @@
 use Rattle.std.specs.Prelude.{ℕ, Bool, List, ◌++◌, ltb, if◌then◌else◌, ◌==◌}
 use Rattle.texts.specs.Answers.{decimal_text}
 use Rattle.texts.specs.Spelled.{spelled}
+use Rattle.phrases.specs.declared.refusals.Trouble.{Trouble}
+use Rattle.phrases.specs.declared.refusals.Trouble.TheVariants.{NoEntry, NotPermitted, Folder, NotInFolder, NoSpace, Other}
 
 -- ---- images
 -- "7 for an image shorter than its version's table .. 7 for a length other than the version's", for a file of n bytes whose image
@@ -25,16 +27,15 @@ refusal code whole n =
 unfoldable pub attempt : Bool → List ℕ
 attempt writing = if writing then spelled ": cannot be written: " else spelled ": cannot be read: "
 
--- what the system says of it; the reasons that have words of their own are numbered
-unfoldable pub reason : ℕ → List ℕ
-reason why =
-    if why == 0 then spelled "no such file or folder\n" else
-    if why == 1 then spelled "not permitted\n" else
-    if why == 2 then spelled "a folder\n" else
-    if why == 3 then spelled "not in a folder\n" else
-    if why == 4 then spelled "no space\n" else
-    spelled "the system refuses\n"
+-- what the system says of it
+unfoldable pub reason : Trouble → List ℕ
+reason NoEntry = spelled "no such file or folder\n"
+reason NotPermitted = spelled "not permitted\n"
+reason Folder = spelled "a folder\n"
+reason NotInFolder = spelled "not in a folder\n"
+reason NoSpace = spelled "no space\n"
+reason Other = spelled "the system refuses\n"
 
 -- the two together, after the file's name
-unfoldable pub trouble : Bool → ℕ → List ℕ
+unfoldable pub trouble : Bool → Trouble → List ℕ
 trouble writing why = attempt writing ++ reason why

@@ -6,17 +6,16 @@ ghost use Rattle.texts.specs.Kept.{typed};
 
 mod refusals;
 
-pub use refusals::{refusal_line, trouble_line};
+pub use refusals::{Trouble, refusal_line, trouble_line};
 use texts::{Text, push};
 
+#[tactic(auto, unfolding(texts::specs::Kept::typed), using(std::proofs::lemmas::List::at_drop_more, std::proofs::lemmas::List::at_drop_all))]
 pub fn word(t: Text, w: &[u8]) -> Text
     ensures { result ≡ typed t w.now }
 {
     let mut u = t;
-    let mut i = 0;
-    while i < w.len() {
-        u = push(u, w[i]);
-        i += 1;
+    for b in w {
+        u = push(u, *b);
     }
     u
 }

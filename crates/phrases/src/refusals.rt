@@ -48,23 +48,34 @@ fn attempt(writing: bool) -> Text
     word(t, b": cannot be read: ")
 }
 
+// Why the system refuses a call on a file, as far as the reason has words of its own.
+#[derive(Clone, Copy, Debug, PartialEq, Eq)]
+pub enum Trouble {
+    NoEntry,
+    NotPermitted,
+    Folder,
+    NotInFolder,
+    NoSpace,
+    Other,
+}
+
 #[tactic(auto, unfolding(crate::specs::Refusals::reason, texts::specs::Spelled::spelled))]
-fn reason(t: Text, why: usize) -> Text
+fn reason(t: Text, why: Trouble) -> Text
     ensures { result ≡ typed t (reason_of why) }
 {
     match why {
-        0 => word(t, b"no such file or folder\n"),
-        1 => word(t, b"not permitted\n"),
-        2 => word(t, b"a folder\n"),
-        3 => word(t, b"not in a folder\n"),
-        4 => word(t, b"no space\n"),
-        _ => word(t, b"the system refuses\n"),
+        Trouble::NoEntry => word(t, b"no such file or folder\n"),
+        Trouble::NotPermitted => word(t, b"not permitted\n"),
+        Trouble::Folder => word(t, b"a folder\n"),
+        Trouble::NotInFolder => word(t, b"not in a folder\n"),
+        Trouble::NoSpace => word(t, b"no space\n"),
+        Trouble::Other => word(t, b"the system refuses\n"),
     }
 }
 
 // Why a file cannot be read or written.
 #[tactic(auto, unfolding(texts::specs::Kept::typed, crate::specs::Refusals::trouble))]
-pub fn trouble_line(writing: bool, why: usize) -> Text
+pub fn trouble_line(writing: bool, why: Trouble) -> Text
     ensures { result ≡ typed no_text (trouble writing why) }
 {
     reason(attempt(writing), why)

@@ -1,11 +1,7 @@
-use Prim.Native.Nat.{◌-◌, ◌≤◌}
+use lib.ListN.{drop}
 use mathlib.Core.Path.{◌≡◌}
-use lib.ListN.{length, take}
 use Rattle.texts.specs.Kept.{typed}
 use Rattle.phrases.proofs.word.Given as goal
 
-abbrev pub invariant-loop-i : goal.invariant-loop-i
-invariant-loop-i l = (l.u ≡ typed l.initial.u (take l.i l.w)) × (l.i ≤ length l.w)
-
-abbrev pub decreases-loop-i : goal.decreases-loop-i
-decreases-loop-i l = length l.w - l.i
+abbrev pub invariant-loop-b : goal.invariant-loop-b
+invariant-loop-b l = typed l.u (drop l.b-index l.w) ≡ typed l.fn.t l.fn.w
