@@ -7,7 +7,7 @@ ghost use Rattle.std.specs.Prelude.{◌≡◌};
 ghost use Rattle.rules.specs.Events.{relit, unsound_answer, outcome_of, event_of};
 ghost use Rattle.event.specs.Known.{known_of};
 
-use rules::{Answer, Device, Effect, Event, Outcome};
+use rules::{Answer, Device, Effect, Event, Outcome, Refusal};
 
 // The answer to a record that is not sound.
 fn unsound(d: Device) -> Outcome<Device>
@@ -56,14 +56,11 @@ fn outcome(code: u8, f: Effect) -> Outcome<Device>
 pub fn event(d: Device, e: Event) -> Outcome<Device>
     ensures { result ≡ event_of d e }
 {
-    let code = refusals::code_of(d, e);
-    if code == 9 {
-        return unsound(d);
+    match refusals::admit(d, e) {
+        Ok(()) => outcome(0, effects::effect_of(d, e)),
+        Err(r) if r == Refusal::Unsound => unsound(d),
+        Err(r) => outcome(r.number(), effects::effect(d, 0)),
     }
-    if code == 0 {
-        return outcome(0, effects::effect_of(d, e));
-    }
-    outcome(code, effects::effect(d, 0))
 }
 
 // The same of a record that is known to be sound, as every record is that an event of a sound one left: nothing asks again whether it is.
@@ -71,9 +68,8 @@ pub fn event(d: Device, e: Event) -> Outcome<Device>
 pub fn known(d: Device, e: Event) -> Outcome<Device>
     ensures { result ≡ known_of d e }
 {
-    let code = refusals::known_code(d, e);
-    if code != 0 {
-        return outcome(code, effects::effect(d, 0));
+    if let Err(r) = refusals::admit_known(d, e) {
+        return outcome(r.number(), effects::effect(d, 0));
     }
     if e.kind == Event::W {
         return outcome(0, effects::write_effect(d, e.a, e.b as u8));

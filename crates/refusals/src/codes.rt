@@ -1,13 +1,14 @@
 // The code of an event: a test for each refusal, in the paper's order.
-ghost use Rattle.std.specs.Prelude.{◌≡◌, ◌&&◌, cond, if◌then◌else◌, ◌==◌};
+ghost use Rattle.std.specs.Prelude.{◌≡◌, ◌&&◌, ◌==◌};
 ghost use Rattle.rules.specs.Registers.{read_only, later};
 ghost use Rattle.rules.specs.Interrupts.{requester};
+ghost use Rattle.rules.specs.Refusals.{code_in};
 ghost use Rattle.rules.specs.Events.{is_w, is_k, unknown, no_register, too_large, held, no_byte, no_room, code_of};
 ghost use Rattle.refusals.specs.Known.{known_code};
 
 use crate::settings;
 use crate::soundness::sound;
-use rules::{Device, Event};
+use rules::{Device, Event, Refusal};
 
 #[tactic(auto, unfolding(rules::specs::Events::unknown))]
 fn is_unknown(e: Event) -> bool
@@ -86,61 +87,48 @@ fn has_no_room(d: Device, e: Event) -> bool
     false
 }
 
-// A code where its test passes, else the code of the tests after it.
-fn or_else(refused: bool, code: u8, rest: u8) -> u8
-    ensures { result ≡ (if refused then code else rest) }
+// "Order: 9, 1, 2, 5, reset hold, 3, 4, 6.", 11 after 3, 10 after 11: from 1 on, of a record that is known to be sound.
+#[tactic(auto, unfolding(crate::specs::Known::known_code, rules::specs::Refusals::code_in, rules::specs::Refusals::number_of))]
+pub fn admit_known(d: Device, e: Event) -> Result<(), Refusal>
+    ensures { code_in result ≡ known_code d e }
 {
-    if refused {
-        return code;
+    if is_unknown(e) {
+        return Err(Refusal::Unknown);
     }
-    rest
-}
-
-// "Order: 9, 1, 2, 5, reset hold, 3, 4, 6.", 11 after 3, 10 after 11, from the last to the first but one: of a record that is known to be sound.
-#[tactic(auto, unfolding(crate::specs::Known::known_code))]
-fn any_code(d: Device, e: Event) -> u8
-    ensures { result ≡ known_code d e }
-{
-    let from_6 = or_else(is_unrequested(d, e), 6, 0);
-    let from_4 = or_else(is_later(d, e), 4, from_6);
-    let from_10 = or_else(has_no_room(d, e), 10, from_4);
-    let from_11 = or_else(has_no_byte(d, e), 11, from_10);
-    let from_3 = or_else(is_read_only(e), 3, from_11);
-    let from_hold = or_else(is_held(d, e), 0, from_3);
-    let from_5 = or_else(is_too_large(e), 5, from_hold);
-    let from_2 = or_else(has_no_register(e), 2, from_5);
-    or_else(is_unknown(e), 1, from_2)
-}
-
-// The same of a W, to which 1, 11 and 6 cannot come.
-#[tactic(auto, unfolding(crate::specs::Known::known_code, rules::specs::Events::unknown, rules::specs::Events::no_byte))]
-fn write_code(d: Device, e: Event) -> u8
-    requires { e.kind ≡ 1 }
-    ensures { result ≡ known_code d e }
-{
-    let from_4 = or_else(is_later(d, e), 4, 0);
-    let from_10 = or_else(has_no_room(d, e), 10, from_4);
-    let from_3 = or_else(is_read_only(e), 3, from_10);
-    let from_hold = or_else(is_held(d, e), 0, from_3);
-    let from_5 = or_else(is_too_large(e), 5, from_hold);
-    or_else(has_no_register(e), 2, from_5)
-}
-
-// A W asks for the fewest tests, and most events are such.
-pub fn known_code(d: Device, e: Event) -> u8
-    ensures { result ≡ known_code d e }
-{
-    if e.kind == Event::W {
-        return write_code(d, e);
+    if has_no_register(e) {
+        return Err(Refusal::NoRegister);
     }
-    any_code(d, e)
+    if is_too_large(e) {
+        return Err(Refusal::TooLarge);
+    }
+    if is_held(d, e) {
+        return Ok(());
+    }
+    if is_read_only(e) {
+        return Err(Refusal::ReadOnly);
+    }
+    if has_no_byte(d, e) {
+        return Err(Refusal::NoByte);
+    }
+    if has_no_room(d, e) {
+        return Err(Refusal::NoRoom);
+    }
+    if is_later(d, e) {
+        return Err(Refusal::Later);
+    }
+    if is_unrequested(d, e) {
+        return Err(Refusal::NoRequester);
+    }
+    Ok(())
 }
 
 // And with the first.
-#[tactic(auto, unfolding(rules::specs::Events::code_of, crate::specs::Known::known_code))]
-pub fn code_of(d: Device, e: Event) -> u8
-    ensures { result ≡ code_of d e }
+#[tactic(auto, unfolding(rules::specs::Events::code_of, crate::specs::Known::known_code, rules::specs::Refusals::code_in, rules::specs::Refusals::number_of))]
+pub fn admit(d: Device, e: Event) -> Result<(), Refusal>
+    ensures { code_in result ≡ code_of d e }
 {
-    let from_1 = known_code(d, e);
-    or_else(!sound(d), 9, from_1)
+    if !sound(d) {
+        return Err(Refusal::Unsound);
+    }
+    admit_known(d, e)
 }

@@ -1,9 +1,9 @@
-// What is refused: whether a record is sound, and the code of an event.
+// What is refused: whether a record is sound, and what refuses an event.
 #![tactic(auto)]
 
 mod codes;
 mod settings;
 mod soundness;
 
-pub use codes::{code_of, known_code};
+pub use codes::{admit, admit_known};
 pub use soundness::sound;
