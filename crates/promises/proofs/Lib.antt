@@ -1,3 +1,4 @@
 pub mod Promise
+pub mod Refused
 pub mod OneAnswer
 pub mod InPlace

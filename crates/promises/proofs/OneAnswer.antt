@@ -72,6 +72,8 @@ use Rattle.ctc_rules.specs.declared.CtcAnswer.{CtcAnswer}
 use Rattle.rules.specs.declared.Answer.{Answer}
 use Rattle.rules.specs.declared.Device.{Device}
 use Rattle.rules.specs.declared.Lines.{Lines}
+use Rattle.rules.specs.declared.refusal.Refusal.{Refusal}
+use Rattle.std.specs.Prelude.{Result}
 use Rattle.rows.specs.declared.RowAnswer.{RowAnswer}
 use Rattle.session.specs.declared.Fed.{Fed}
 use Rattle.session.specs.declared.Told.{Told}
@@ -137,8 +139,8 @@ use Rattle.chip_image.specs.contracts.restore as chip-image·restore
 use Rattle.session.specs.contracts.start as session·start
 use Rattle.session.specs.contracts.feed as session·feed
 use Rattle.session.specs.contracts.finish as session·finish
-use Rattle.refusals.specs.contracts.code_of as refusals·code-of
-use Rattle.refusals.specs.contracts.known_code as refusals·known-code
+use Rattle.refusals.specs.contracts.admit as refusals·admit
+use Rattle.refusals.specs.contracts.admit_known as refusals·admit-known
 use Rattle.refusals.specs.contracts.sound as refusals·sound
 use Rattle.record.specs.contracts.reset as record·reset
 use Rattle.record.specs.contracts.same as record·same
@@ -241,6 +243,7 @@ use Rattle.texts.specs.contracts.no_text as texts·no-text
 use Rattle.texts.specs.contracts.push as texts·push
 use Rattle.write_access.specs.contracts.write as write-access·write
 use Rattle.promises.proofs.Promise.{OneAnswer, one_answer, OneResult, one-result, two-clauses}
+use Rattle.promises.proofs.Refused.{told_by, told-by}
 
 module _ {M : Type 1} (𝓤 : Ura M) where
   -- the calls that a host makes
@@ -497,11 +500,15 @@ module _ {M : Type 1} (𝓤 : Ura M) where
       (λ κs a. (finished_by a.0 a.1.0.now, laid_of a.1.0.now 0 (answers_last a.0)))
       (λ 𝓛 at_mem run κs a g r x. two-clauses 𝓤 _ _ _ _ (λ p q i. (p i, q i)))
 
-  pub refusals-code-of : OneResult 𝓤 refusals·code-of.ended refusals·code-of.clauses
-  refusals-code-of = one-result 𝓤 refusals·code-of.ended refusals·code-of.clauses (λ κs a. code_of a.0 a.1.0) refl
+  pub refusals-admit : OneResult 𝓤 refusals·admit.ended refusals·admit.clauses
+  refusals-admit =
+      one_answer 𝓤 refusals·admit.ended refusals·admit.clauses (λ κs. Result Unit Refusal) (λ κs r x. r)
+      (λ κs a. told_by (code_of a.0 a.1.0)) (λ 𝓛 at_mem run κs a g r x. fact_mono 𝓤 _ _ (told-by r))
 
-  pub refusals-known-code : OneResult 𝓤 refusals·known-code.ended refusals·known-code.clauses
-  refusals-known-code = one-result 𝓤 refusals·known-code.ended refusals·known-code.clauses (λ κs a. known_code a.0 a.1.0) refl
+  pub refusals-admit-known : OneResult 𝓤 refusals·admit-known.ended refusals·admit-known.clauses
+  refusals-admit-known =
+      one_answer 𝓤 refusals·admit-known.ended refusals·admit-known.clauses (λ κs. Result Unit Refusal) (λ κs r x. r)
+      (λ κs a. told_by (known_code a.0 a.1.0)) (λ 𝓛 at_mem run κs a g r x. fact_mono 𝓤 _ _ (told-by r))
 
   pub refusals-sound : OneResult 𝓤 refusals·sound.ended refusals·sound.clauses
   refusals-sound = one-result 𝓤 refusals·sound.ended refusals·sound.clauses (λ κs a. sound_of a.0) refl

@@ -155,7 +155,7 @@ fn code_seen(hit: bool, d: Device, s: Pass) -> u8
     if hit {
         let e = s.event;
         let v = e.event;
-        return refusals::code_of(d, v);
+        return rules::code(refusals::admit(d, v));
     }
     s.answer.code
 }
