@@ -19,7 +19,7 @@ fn is_hole(f: &[u8]) -> bool
 }
 
 #[tactic(auto, unfolding(crate::specs::Fields::decimal_in))]
-fn decimal_in(most: u64, f: &[u8]) -> u64
+fn decimal_in(most: u32, f: &[u8]) -> u64
     ensures { result ≡ decimal_in most f.now }
 {
     let n = f.len();
@@ -29,11 +29,13 @@ fn decimal_in(most: u64, f: &[u8]) -> u64
     if (f[0] == b'0') & (1 < n) {
         return UNREADABLE;
     }
-    let d = lines::decimal(f);
+    let Some(d) = lines::decimal(f) else {
+        return UNREADABLE;
+    };
     if most < d {
         return UNREADABLE;
     }
-    d
+    d.into()
 }
 
 #[tactic(auto, unfolding(crate::specs::Fields::pair_in))]
@@ -43,12 +45,10 @@ fn pair_in(f: &[u8]) -> u64
     if f.len() != 2 {
         return UNREADABLE;
     }
-    let h = lines::digit(f[0]);
-    let l = lines::digit(f[1]);
-    if (h < 16) & (l < 16) {
-        return (16 * h + l) as u64;
+    match (lines::digit(f[0]), lines::digit(f[1])) {
+        (Some(h), Some(l)) => (16 * h + l).into(),
+        _ => UNREADABLE,
     }
-    UNREADABLE
 }
 
 #[tactic(auto, unfolding(crate::specs::Fields::nibble_in))]
@@ -58,11 +58,10 @@ fn nibble_in(f: &[u8]) -> u64
     if f.len() != 1 {
         return UNREADABLE;
     }
-    let d = lines::digit(f[0]);
-    if d < 16 {
-        return d as u64;
+    match lines::digit(f[0]) {
+        Some(d) => d.into(),
+        None => UNREADABLE,
     }
-    UNREADABLE
 }
 
 #[tactic(auto, unfolding(crate::specs::Fields::number_at))]

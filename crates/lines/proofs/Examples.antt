@@ -2,11 +2,11 @@
 -- Assumes nothing.
 use Prim.Native.Nat.{ℕ}
 use mathlib.Core.Path.{◌≡◌, refl}
+use Rattle.std.specs.Prelude.{Option, None}
 use mathlib.Core.Bool.{false}
 use mathlib.Core.List.{List, [], ◌∷◌}
 use Rattle.rules.specs.Report.{no_report}
-use Rattle.lines.specs.declared.Line.{Line}
-use Rattle.lines.specs.declared.Line.TheVariants.{Unreadable}
+use Rattle.rules.specs.declared.Event.{Event}
 use Rattle.texts.specs.Answers.{glyph_of, hex_text, nibble_text, flag_text, place_text, decimal_text, count_text, counts_text, report_text, answer_text}
 use Rattle.texts.specs.Spelled.{spelled}
 use Rattle.lines.specs.Lines.{
@@ -27,7 +27,7 @@ use Rattle.lines.specs.Lines.{
 -- a line and what it says
 pub record Reading : Type 0 where
   pub line : List ℕ
-  pub says : Line
+  pub says : Option Event
 
 abbrev pub Read : List Reading → Type 0
 Read [] = Unit
@@ -40,13 +40,13 @@ readings =
     ∷ record { line = spelled "K"; says = said 5 0 0 0 }
     ∷ record { line = spelled "R 30"; says = said 2 0x30 0 0 }
     ∷ record { line = spelled "T 0"; says = said 4 0 0 0 }
-    ∷ record { line = spelled "T 01"; says = Unreadable }
+    ∷ record { line = spelled "T 01"; says = None }
     ∷ record { line = spelled "T 4294967295"; says = said 4 4294967295 0 0 }
-    ∷ record { line = spelled "T 4294967296"; says = Unreadable }
-    ∷ record { line = spelled ""; says = Unreadable }
-    ∷ record { line = spelled "R 3a"; says = Unreadable }
-    ∷ record { line = spelled "X\r"; says = Unreadable }
-    ∷ record { line = spelled "K 00"; says = Unreadable }
+    ∷ record { line = spelled "T 4294967296"; says = None }
+    ∷ record { line = spelled ""; says = None }
+    ∷ record { line = spelled "R 3a"; says = None }
+    ∷ record { line = spelled "X\r"; says = None }
+    ∷ record { line = spelled "K 00"; says = None }
     ∷ []
 
 pub read : Read readings

@@ -1,7 +1,6 @@
 pub mod Tests
 pub mod Digits
 pub mod Words
-pub mod Said
 pub mod Cutting
 pub mod Saying
 pub mod Whole

@@ -1,15 +1,23 @@
--- A range as a test.
+-- A number below another.
 -- Assumes nothing.
-use Prim.Native.Nat.{ℕ, ◌≤◌}
-use mathlib.Core.Bool.{true}
-use mathlib.Core.Path.{◌≡◌}
-use borrow.Author.Tests.{leb-true}
-use lib.Dec.{leb}
-use Rattle.basics.specs.Signs.{within}
-use Rattle.basics.proofs.Tests.{both}
+use Rattle.std.specs.Prelude.{Option, Some, None}
+use Prim.Native.Nat.{ℕ, ◌≤◌, ◌<◌}
+use mathlib.Core.Bool.{Bool, true, false, cond}
+use mathlib.Core.Path.{◌≡◌, refl}
+use borrow.Author.Tests.{lt-ltb, le-ltb, ltb-true, ltb-false}
+use lib.Dec.{ltb}
+use Rattle.lines.specs.Lines.{below}
 
--- what lies in a range
-pub bounds : (low high a : ℕ) → within low high a ≡ true → (low ≤ a) × (a ≤ high)
-bounds low high a e =
-    let t = both (leb low a) (leb a high) e in
-    (leb-true low a t.0, leb-true a high t.1)
+pub is_below : {v : ℕ} (m n : ℕ) → Some v ≡ below m n → (v ≡ n) × (n < m)
+is_below {v} m n e = by-test (ltb n m) refl e
+  where
+    by-test : (f : Bool) → ltb n m ≡ f → Some v ≡ cond f (Some n) None → (v ≡ n) × (n < m)
+    by-test true t g = (cc, ltb-true n m t)
+    by-test false t g = cc
+
+pub not-below : (m n : ℕ) → None ≡ below m n → m ≤ n
+not-below m n e = by-test (ltb n m) refl e
+  where
+    by-test : (f : Bool) → ltb n m ≡ f → None ≡ cond f (Some n) None → m ≤ n
+    by-test true t g = absurd cc
+    by-test false t g = ltb-false n m t

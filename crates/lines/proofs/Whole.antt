@@ -1,6 +1,6 @@
 -- An input read in pieces says what its lines say, wherever it was cut.
 -- Assumes nothing.
-use Rattle.std.specs.Prelude.{◌==◌}
+use Rattle.std.specs.Prelude.{Option, None, ◌==◌}
 use Prim.Native.Nat.{ℕ}
 use mathlib.Core.Bool.{Bool, true, false, cond}
 use mathlib.Core.List.{List, [], ◌∷◌, ◌++◌, map, append_assoc}
@@ -10,7 +10,7 @@ use Rattle.texts.specs.Answers.{line_feed}
 use Rattle.texts.specs.Kept.{no_text, pushed, typed}
 use Rattle.lines.specs.Lines.{line_of, says_of}
 use Rattle.lines.specs.Pieces.{last_of, lines_from, input_lines, said_in, kept_after, said_last, said_all, input_of}
-use Rattle.lines.specs.declared.Line.{Line}
+use Rattle.rules.specs.declared.Event.{Event}
 use Rattle.texts.specs.declared.Text.{Text}
 use Rattle.texts.proofs.Keeping.{some-kept}
 use Rattle.lines.proofs.Saying.{says-line}
@@ -38,17 +38,17 @@ said-append t (b ∷ p) q = by-feed (b == line_feed) (said-append no_text p q) (
         → said_in (pushed t b) (p ++ q) ≡ said_in (pushed t b) p ++ said_in (kept_after (pushed t b) p) q
         → cond f (says_of t ∷ said_in no_text (p ++ q)) (said_in (pushed t b) (p ++ q))
         ≡ cond f (says_of t ∷ said_in no_text p) (said_in (pushed t b) p) ++ said_in (cond f (kept_after no_text p) (kept_after (pushed t b) p)) q
-    by-feed true at-feed in-line = ap (λ (ls : List Line). says_of t ∷ ls) at-feed
+    by-feed true at-feed in-line = ap (λ (ls : List (Option Event)). says_of t ∷ ls) at-feed
     by-feed false at-feed in-line = in-line
 
 pub said-joined : (t : Text) (ps : List (List ℕ)) → said_all t ps ≡ said_in t (input_of ps) ++ said_last (kept_after t (input_of ps))
 unfolding said_all input_of said_in kept_after
 said-joined t [] = refl
 said-joined t (p ∷ ps) =
-    ap (λ (ls : List Line). said_in t p ++ ls) (said-joined (kept_after t p) ps)
+    ap (λ (ls : List (Option Event)). said_in t p ++ ls) (said-joined (kept_after t p) ps)
     ∙ sym (append_assoc (said_in t p) (said_in (kept_after t p) (input_of ps)) (said_last (kept_after (kept_after t p) (input_of ps))))
     ∙ sym
-    (ap (λ (ls : List Line). ls ++ said_last (kept_after t (p ++ input_of ps))) (said-append t p (input_of ps))
+    (ap (λ (ls : List (Option Event)). ls ++ said_last (kept_after t (p ++ input_of ps))) (said-append t p (input_of ps))
     ∙ ap (λ (u : Text). said_in t p ++ said_in (kept_after t p) (input_of ps) ++ said_last u) (kept_append t p (input_of ps)))
 
 -- ---- one piece is its lines
@@ -74,7 +74,7 @@ from-line w (b ∷ rest) = by-feed (b == line_feed) (from-line [] rest) (from-li
         ++ said_last (cond f (kept_after no_text rest) (kept_after (pushed (typed no_text w) b) rest))
         ≡ map line_of (cond f (w ∷ lines_from [] rest) (lines_from (w ++ (b ∷ [])) rest))
     by-feed true at-feed in-line =
-        ap (λ (l : Line). l ∷ (said_in no_text rest ++ said_last (kept_after no_text rest))) (says-line w) ∙ ap (λ (ls : List Line). line_of w ∷ ls) at-feed
+        ap (λ (l : Option Event). l ∷ (said_in no_text rest ++ said_last (kept_after no_text rest))) (says-line w) ∙ ap (λ (ls : List (Option Event)). line_of w ∷ ls) at-feed
     by-feed false at-feed in-line =
         ap (λ (u : Text). said_in u rest ++ said_last (kept_after u rest)) (sym (typed-append no_text w (b ∷ []))) ∙ in-line
 

@@ -1,12 +1,12 @@
 -- The lines of an input, and of an input that comes in pieces. Paper 01, "The trace program": "reads standard input: ..
 -- a line feed .. the last line feed may be missing."
 -- Assumes nothing.
-use Rattle.std.specs.Prelude.{ℕ, suc, true, false, List, [], ◌∷◌, ◌++◌, if◌then◌else◌, ◌==◌}
+use Rattle.std.specs.Prelude.{ℕ, suc, true, false, Option, List, [], ◌∷◌, ◌++◌, if◌then◌else◌, ◌==◌}
 use Rattle.texts.specs.Answers.{line_feed}
 use Rattle.texts.specs.Kept.{no_text, pushed}
 use Rattle.lines.specs.Lines.{says_of}
 use Rattle.lines.specs.declared.Cut.{Cut}
-use Rattle.lines.specs.declared.Line.{Line}
+use Rattle.rules.specs.declared.Event.{Event}
 use Rattle.texts.specs.declared.Text.{Text}
 
 -- ---- an input as a whole
@@ -26,7 +26,7 @@ input_lines input = lines_from [] input
 
 -- ---- a piece of an input, where t is kept of a line that began before it
 -- what the lines say that end in the piece
-unfoldable pub said_in : Text → List ℕ → List Line
+unfoldable pub said_in : Text → List ℕ → List (Option Event)
 said_in t [] = []
 said_in t (b ∷ rest) = if b == line_feed then says_of t ∷ said_in no_text rest else said_in (pushed t b) rest
 
@@ -36,7 +36,7 @@ kept_after t [] = t
 kept_after t (b ∷ rest) = if b == line_feed then kept_after no_text rest else kept_after (pushed t b) rest
 
 -- at the end of the input: the last line, where it is not empty
-unfoldable pub said_last : Text → List Line
+unfoldable pub said_last : Text → List (Option Event)
 said_last t = if t.len == 0 then [] else says_of t ∷ []
 
 -- ---- one line of a piece
@@ -58,7 +58,7 @@ cut_from t i (b ∷ rest) =
 
 -- ---- an input in pieces, cut anywhere
 -- what the lines say that end in each, and last of all the last line
-unfoldable pub said_all : Text → List (List ℕ) → List Line
+unfoldable pub said_all : Text → List (List ℕ) → List (Option Event)
 said_all t [] = said_last t
 said_all t (p ∷ ps) = said_in t p ++ said_all (kept_after t p) ps
 

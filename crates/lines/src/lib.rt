@@ -6,16 +6,8 @@ mod pieces;
 mod reading;
 
 pub use pieces::{cut_from, line_end};
-pub use reading::{decimal, digit, event_of, event_of_line};
-use rules::Event;
+pub use reading::{UNREADABLE, decimal, digit, event_of, event_of_line};
 use texts::Text;
-
-// What a line says.
-#[derive(Clone, Copy)]
-pub enum Line {
-    Said(Event),
-    Unreadable,
-}
 
 // What was found of a line in a piece: its bytes, the place in the piece after them, and whether the line is whole.
 #[derive(Clone, Copy)]

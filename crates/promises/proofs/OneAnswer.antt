@@ -34,7 +34,7 @@ use Rattle.image.specs.Image.{agree, restored_of, save_code, saved_of}
 use Rattle.image.specs.Pointed.{image_z8536, restored_z8536, save_code_z8536, saved_z8536}
 use Rattle.input.specs.Input.{unread}
 use Rattle.levels.specs.Looks.{looks_of}
-use Rattle.lines.specs.Lines.{clocks_in, digit_of, event_in, line_of, says_of}
+use Rattle.lines.specs.Lines.{below, clocks_in, digit_of, event_in, line_of, says_of}
 use Rattle.lines.specs.Pieces.{cut_from, feed_at}
 use Rattle.measure.specs.Measure.{measure_start, measured_of, table_of}
 use Rattle.phrases.specs.Refusals.{refusal, trouble}
@@ -728,12 +728,10 @@ module _ {M : Type 1} (𝓤 : Ura M) where
   lines-line-end = one-result 𝓤 lines·line-end.ended lines·line-end.clauses (λ κs a. a.1.0 + feed_at (drop a.1.0 a.0.now)) refl
 
   pub lines-digit : OneResult 𝓤 lines·digit.ended lines·digit.clauses
-  lines-digit =
-      one_answer 𝓤 lines·digit.ended lines·digit.clauses (λ κs. ℕ) (λ κs r x. r)
-      (λ κs a. digit_of a.0) (λ 𝓛 at_mem run κs a g r x. fact_mono 𝓤 _ _ (λ p. p.0))
+  lines-digit = one-result 𝓤 lines·digit.ended lines·digit.clauses (λ κs a. below 16 (digit_of a.0)) refl
 
   pub lines-decimal : OneResult 𝓤 lines·decimal.ended lines·decimal.clauses
-  lines-decimal = one-result 𝓤 lines·decimal.ended lines·decimal.clauses (λ κs a. clocks_in a.0.now) refl
+  lines-decimal = one-result 𝓤 lines·decimal.ended lines·decimal.clauses (λ κs a. below 4294967296 (clocks_in a.0.now)) refl
 
   pub lines-event-of : OneResult 𝓤 lines·event-of.ended lines·event-of.clauses
   lines-event-of = one-result 𝓤 lines·event-of.ended lines·event-of.clauses (λ κs a. event_in (line_of a.0.now)) refl

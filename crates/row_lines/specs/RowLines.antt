@@ -3,7 +3,7 @@
 -- terminal and three lost counts".
 -- Assumes nothing.
 use Prim.Native.Char.{code}
-use Rattle.std.specs.Prelude.{ℕ, ◌-◌, Bool, ◌&&◌, List, [], ◌∷◌, ◌++◌, ltb, drop, get_or, length, if◌then◌else◌, ◌==◌}
+use Rattle.std.specs.Prelude.{ℕ, ◌-◌, Bool, ◌&&◌, None, List, [], ◌∷◌, ◌++◌, ltb, drop, get_or, length, if◌then◌else◌, ◌==◌}
 use Rattle.basics.specs.Signs.{within}
 use Rattle.rules.specs.declared.Answer.{Answer}
 use Rattle.rules.specs.declared.Event.{Event}
@@ -15,13 +15,12 @@ use Rattle.texts.specs.declared.Text.{Text}
 use Rattle.texts.specs.Answers.{space, decimal_text, hex_text, levels_text}
 use Rattle.texts.specs.Kept.{no_text, bytes_of}
 use Rattle.lines.specs.Lines.{line_most, event_in, says_of}
-use Rattle.lines.specs.declared.Line.TheVariants.{Unreadable}
 use Rattle.lines.specs.Pieces.{cut_from}
 
 -- ---- what a line says
 -- an unreadable line is answered as a kind above 6 is
 abbrev pub unreadable : RowEvent
-unreadable = record { device = 0; event = event_in Unreadable }
+unreadable = record { device = 0; event = event_in None }
 
 -- a line that begins with a digit and a space says of a device what the rest of it says
 unfoldable pub names_device : List ℕ → Bool

@@ -9,17 +9,17 @@ use Rattle.lines.proofs.Whole.{said-append, kept_append, said-lines}
 use Rattle.texts.specs.Answers.{answer_text}
 use Rattle.lines.specs.Lines.{event_in}
 use Rattle.lines.specs.Pieces.{said_in, kept_after, said_all, input_of}
-use Rattle.lines.specs.declared.Line.{Line}
+use Rattle.rules.specs.declared.Event.{Event}
 use Rattle.texts.specs.declared.Text.{Text}
 use Rattle.session.specs.Sessions.{answer_bytes, device_after, printed_for, start_of, after_of, answers_in, answers_last, written_by}
 use Rattle.session.specs.declared.Session.{Session}
 
-pub device-append : (d : Chip) (ls ms : List Line) → device_after d (ls ++ ms) ≡ device_after (device_after d ls) ms
+pub device-append : (d : Chip) (ls ms : List (Option Event)) → device_after d (ls ++ ms) ≡ device_after (device_after d ls) ms
 unfolding device_after
 device-append d [] ms = refl
 device-append d (l ∷ ls) ms = device-append (event_chip d (event_in l)).device ls ms
 
-pub answers-to-append : (d : Chip) (ls ms : List Line) → answer_bytes d (ls ++ ms) ≡ answer_bytes d ls ++ answer_bytes (device_after d ls) ms
+pub answers-to-append : (d : Chip) (ls ms : List (Option Event)) → answer_bytes d (ls ++ ms) ≡ answer_bytes d ls ++ answer_bytes (device_after d ls) ms
 unfolding answer_bytes device_after
 answers-to-append d [] ms = refl
 answers-to-append d (l ∷ ls) ms =
@@ -34,7 +34,7 @@ session d t = record { device = d; text = t }
 pub after-append : (s : Session) (p q : List ℕ) → after_of s (p ++ q) ≡ after_of (after_of s p) q
 unfolding after_of
 after-append s p q =
-    ap₂ (λ (ls : List Line) (u : Text). session (device_after s.device ls) u) (said-append s.text p q) (kept_append s.text p q)
+    ap₂ (λ (ls : List (Option Event)) (u : Text). session (device_after s.device ls) u) (said-append s.text p q) (kept_append s.text p q)
     ∙ ap (λ (d : Chip). session d (kept_after (kept_after s.text p) q)) (device-append s.device (said_in s.text p) (said_in (kept_after s.text p) q))
 
 pub answers-append : (s : Session) (p q : List ℕ) → answers_in s (p ++ q) ≡ answers_in s p ++ answers_in (after_of s p) q

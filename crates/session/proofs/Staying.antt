@@ -10,13 +10,13 @@ use Rattle.chip.specs.Chips.{sound_chip, event_chip}
 use Rattle.chip.proofs.Kept.{Good, event-good}
 use Rattle.lines.specs.Lines.{event_in}
 use Rattle.lines.specs.Pieces.{said_in}
-use Rattle.lines.specs.declared.Line.{Line}
+use Rattle.rules.specs.declared.Event.{Event}
 use Rattle.session.specs.declared.Fed.{Fed}
 use Rattle.session.specs.declared.Session.{Session}
 use Rattle.session.specs.Sessions.{device_after, after_of, fed_by}
 use Rattle.session.proofs.Feeding.{SoFar}
 
-device-good : (d : Chip) (ls : List Line) → Good d → Good (device_after d ls)
+device-good : (d : Chip) (ls : List (Option Event)) → Good d → Good (device_after d ls)
 unfolding device_after
 device-good d [] g = g
 device-good d (l ∷ ls) g = device-good (event_chip d (event_in l)).device ls (event-good d (event_in l) g)

@@ -11,7 +11,7 @@ use Rattle.texts.specs.Answers.{answer_text}
 use Rattle.texts.specs.Kept.{text_room, no_text}
 use Rattle.lines.specs.Lines.{event_in, line_of, says_of}
 use Rattle.lines.specs.Pieces.{input_lines, line_len, said_in, kept_after, said_last}
-use Rattle.lines.specs.declared.Line.{Line}
+use Rattle.rules.specs.declared.Event.{Event}
 use Rattle.texts.specs.declared.Text.{Text}
 use Rattle.session.specs.declared.Fed.{Fed}
 use Rattle.session.specs.declared.Session.{Session}
@@ -22,11 +22,11 @@ abbrev pub outcome_by : Chip → Text → Outcome Chip Answer
 outcome_by d t = event_chip d (event_in (says_of t))
 
 -- ---- lines said to a device one after the other: the bytes of their answers, and the device after them
-unfoldable pub answer_bytes : Chip → List Line → List ℕ
+unfoldable pub answer_bytes : Chip → List (Option Event) → List ℕ
 answer_bytes d [] = []
 answer_bytes d (l ∷ ls) = answer_text (event_chip d (event_in l)).answer ++ answer_bytes (event_chip d (event_in l)).device ls
 
-unfoldable pub device_after : Chip → List Line → Chip
+unfoldable pub device_after : Chip → List (Option Event) → Chip
 device_after d [] = d
 device_after d (l ∷ ls) = device_after (event_chip d (event_in l)).device ls
 

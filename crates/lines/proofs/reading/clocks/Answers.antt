@@ -1,37 +1,26 @@
-use mathlib.Core.Path.{sym, ◌∙◌}
+use mathlib.Core.Path.{sym, ap, ◌∙◌}
 use native.Mathlib.Omega.{arith}
-use borrow.Author.Tests.{lt-ltb, le-ltb, eq-eqb, ne_eqb}
-use Rattle.lines.proofs.Words.{clocks-short, clocks-at, plain_at}
+use Rattle.std.proofs.lemmas.List.{take_rest}
+use Rattle.lines.proofs.Words.{one_said, clocks_short, clocks_else, clocks_leading, clocks_read}
 use Rattle.lines.proofs.reading.clocks.Goals as goal
 
-pub returns-then-s-lt3 : goal.returns-then-s-lt3
-returns-then-s-lt3 c = sym (clocks-short c.args.s.now c.if-s-lt3.true)
+pub returns-in_default : goal.returns-in_default
+returns-in_default c = sym (clocks_short c.args.s.now c.in_default.len_below)
 
-pub returns-then-s-ne32 : goal.returns-then-s-ne32
-returns-then-s-ne32 c =
-    sym (clocks-at c.args.s.now c.if-s-lt3.false ∙ (simp (ne_eqb _ _ c.if-s-ne32.true)))
+pub returns-in_default-2 : goal.returns-in_default-2
+returns-in_default-2 c = sym (clocks_else c.args.s.now (omega arith))
 
-pub returns-then-s : goal.returns-then-s
-returns-then-s c =
-    let s = c.args.s.now in
-    let long = c.if-s-lt3.false in
-    sym (clocks-at s long ∙ (simp (plain_at s long, c.if-s.true, eq-eqb _ _ c.if-s-ne32.false)))
+pub returns-then-first-s : goal.returns-then-first-s
+returns-then-first-s c = sym (clocks_leading c.args.s.now c.if-first-s.true)
 
-pub returns-then-n-gt4294967295 : goal.returns-then-n-gt4294967295
-returns-then-n-gt4294967295 c =
-    let s = c.args.s.now in
-    let long = c.if-s-lt3.false in
-    let read = c.clocks_in-n.ensures in
-    sym
-    (clocks-at s long
-    ∙ (simp (plain_at s long, c.if-s.false, eq-eqb _ _ c.if-s-ne32.false, ← read, le-ltb _ 4294967296 c.if-n-gt4294967295.true)))
+pub returns-in_err-decimal : goal.returns-in_err-decimal
+unfolding one_said
+returns-in_err-decimal c =
+    c.from_residual.ensures ∙ ap (one_said 4) (simp take_rest at c.in_err-decimal.ensures)
+    ∙ sym (clocks_read c.args.s.now c.in-32.len_at_least (omega arith) c.if-first-s.false)
 
 pub returns : goal.returns
+unfolding one_said
 returns c =
-    let s = c.args.s.now in
-    let long = c.if-s-lt3.false in
-    let small = lt-ltb c.clocks_in-n.result 4294967296 (omega arith) in
-    c.said.ensures
-    ∙ sym
-    (clocks-at s long
-    ∙ (simp (plain_at s long, c.if-s.false, eq-eqb _ _ c.if-s-ne32.false, ← c.clocks_in-n.ensures, small)))
+    ap (one_said 4) (simp take_rest at c.in_ok-decimal.ensures)
+    ∙ sym (clocks_read c.args.s.now c.in-32.len_at_least (omega arith) c.if-first-s.false)

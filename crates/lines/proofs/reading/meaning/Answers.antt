@@ -1,48 +1,83 @@
-use Prim.Native.Nat.{ℕ}
-use mathlib.Core.List.{[], ◌∷◌}
-use mathlib.Core.Path.{sym, ap, ◌∙◌}
-use lib.ListN.{get_or}
-use Rattle.lines.specs.Lines.{said_by}
-use Rattle.lines.proofs.Words.{number_at, empty-line, clocks-line, bare-line, one_line, two-line, three-line, other-line}
+use mathlib.Core.Path.{refl, ap, ◌∙◌}
+use native.Mathlib.Omega.{arith}
+use Rattle.std.proofs.lemmas.List.{take_rest}
+use Rattle.lines.specs.Lines.{clocks_of}
+use Rattle.lines.proofs.Words.{one_said, two_said, three_said, unfit_line, line_X, line_W, line_R, line_P, line_T, line_K, line_E, none-line}
 use Rattle.lines.proofs.reading.meaning.Goals as goal
 
-pub returns-then-n-eq0 : goal.returns-then-n-eq0
-returns-then-n-eq0 c = sym (empty-line c.args.s.now c.if-n-eq0.true)
+pub returns-then-n : goal.returns-then-n
+returns-then-n c = unfit_line c.args.s.now c.if-n.true
 
-pub returns-then-letter-eq84 : goal.returns-then-letter-eq84
-returns-then-letter-eq84 c =
-    c.clocks.ensures ∙ sym (clocks-line c.args.s.now c.if-n-gt-MOST.false c.if-n-eq0.false c.if-letter-eq84.true)
+pub returns-in-88-eq1 : goal.returns-in-88-eq1
+returns-in-88-eq1 c = c.said.ensures ∙ line_X c.args.s.now c.in-88-eq1.is-0 c.in-88-eq1.is-1
 
-pub returns-in-1 : goal.returns-in-1
-returns-in-1 c =
-    let s = c.args.s.now in
-    c.bare.ensures
-    ∙ sym (bare-line s c.if-n-gt-MOST.false c.if-n-eq0.false c.if-letter-eq84.false c.in-1.is)
+pub returns-in_err-number-in-87-eq7 : goal.returns-in_err-number-in-87-eq7
+unfolding two_said
+returns-in_err-number-in-87-eq7 c = c.from_residual.ensures ∙ line_W c.args.s.now c.in-87-eq7.is-0 c.in-87-eq7.is-1 c.in_err-number-in-87-eq7.ensures refl
 
-pub returns-in-4 : goal.returns-in-4
-returns-in-4 c =
-    let s = c.args.s.now in
-    c.with_one.ensures ∙ ap (λ (a : ℕ). said_by (get_or s 0 0) (a ∷ [])) c.number.ensures
-    ∙ sym (one_line s c.if-n-gt-MOST.false c.if-n-eq0.false c.if-letter-eq84.false c.in-4.is)
+pub returns-in_err-number-in-87-eq7-2 : goal.returns-in_err-number-in-87-eq7-2
+unfolding two_said
+returns-in_err-number-in-87-eq7-2 c = c.from_residual-in_err-number-in-87-eq7-2.ensures ∙ line_W c.args.s.now c.in-87-eq7.is-0 c.in-87-eq7.is-1 c.in_ok-number-in-87-eq7.ensures c.in_err-number-in-87-eq7-2.ensures
 
-pub returns-in-7 : goal.returns-in-7
-returns-in-7 c =
-    let s = c.args.s.now in
-    c.with_two.ensures ∙ ap (λ (b : ℕ). said_by (get_or s 0 0) (c.number-in-7.result ∷ b ∷ [])) c.number-in-7-2.ensures
-    ∙ ap (λ (a : ℕ). said_by (get_or s 0 0) (a ∷ number_at s 4 ∷ [])) c.number-in-7.ensures
-    ∙ sym (two-line s c.if-n-gt-MOST.false c.if-n-eq0.false c.if-letter-eq84.false c.in-7.is)
+pub returns-in_ok-number-in-87-eq7-2 : goal.returns-in_ok-number-in-87-eq7-2
+unfolding two_said
+returns-in_ok-number-in-87-eq7-2 c = c.said-in-87-eq7.ensures ∙ line_W c.args.s.now c.in-87-eq7.is-0 c.in-87-eq7.is-1 c.in_ok-number-in-87-eq7.ensures c.in_ok-number-in-87-eq7-2.ensures
 
-pub returns-in-10 : goal.returns-in-10
-returns-in-10 c =
-    let s = c.args.s.now in
-    c.with_three.ensures
-    ∙ ap (λ (d : ℕ). said_by (get_or s 0 0) (c.number-in-10.result ∷ c.number-in-10-2.result ∷ d ∷ [])) c.number-in-10-3.ensures
-    ∙ ap (λ (b : ℕ). said_by (get_or s 0 0) (c.number-in-10.result ∷ b ∷ number_at s 7 ∷ [])) c.number-in-10-2.ensures
-    ∙ ap (λ (a : ℕ). said_by (get_or s 0 0) (a ∷ number_at s 4 ∷ number_at s 7 ∷ [])) c.number-in-10.ensures
-    ∙ sym (three-line s c.if-n-gt-MOST.false c.if-n-eq0.false c.if-letter-eq84.false c.in-10.is)
+pub returns-in_err-number-in-82-eq4 : goal.returns-in_err-number-in-82-eq4
+unfolding one_said
+returns-in_err-number-in-82-eq4 c = c.from_residual-in_err-number-in-82-eq4.ensures ∙ line_R c.args.s.now c.in-82-eq4.is-0 c.in-82-eq4.is-1 c.in_err-number-in-82-eq4.ensures
+
+pub returns-in_ok-number-in-82-eq4 : goal.returns-in_ok-number-in-82-eq4
+unfolding one_said
+returns-in_ok-number-in-82-eq4 c = c.said-in-82-eq4.ensures ∙ line_R c.args.s.now c.in-82-eq4.is-0 c.in-82-eq4.is-1 c.in_ok-number-in-82-eq4.ensures
+
+pub returns-in_err-number-in-69-eq4 : goal.returns-in_err-number-in-69-eq4
+unfolding one_said
+returns-in_err-number-in-69-eq4 c = c.from_residual-in_err-number-in-69-eq4.ensures ∙ line_E c.args.s.now c.in-69-eq4.is-0 c.in-69-eq4.is-1 c.in_err-number-in-69-eq4.ensures
+
+pub returns-in_ok-number-in-69-eq4 : goal.returns-in_ok-number-in-69-eq4
+unfolding one_said
+returns-in_ok-number-in-69-eq4 c = c.said-in-69-eq4.ensures ∙ line_E c.args.s.now c.in-69-eq4.is-0 c.in-69-eq4.is-1 c.in_ok-number-in-69-eq4.ensures
+
+pub returns-in_err-number-in-80-eq10 : goal.returns-in_err-number-in-80-eq10
+unfolding three_said
+returns-in_err-number-in-80-eq10 c = c.from_residual-in_err-number-in-80-eq10.ensures ∙ line_P c.args.s.now c.in-80-eq10.is-0 c.in-80-eq10.is-1 c.in_err-number-in-80-eq10.ensures refl refl
+
+pub returns-in_err-number-in-80-eq10-2 : goal.returns-in_err-number-in-80-eq10-2
+unfolding three_said
+returns-in_err-number-in-80-eq10-2 c = c.from_residual-in_err-number-in-80-eq10-2.ensures ∙ line_P c.args.s.now c.in-80-eq10.is-0 c.in-80-eq10.is-1 c.in_ok-number-in-80-eq10.ensures c.in_err-number-in-80-eq10-2.ensures refl
+
+pub returns-in_err-number-in-80-eq10-3 : goal.returns-in_err-number-in-80-eq10-3
+unfolding three_said
+returns-in_err-number-in-80-eq10-3 c = c.from_residual-in_err-number-in-80-eq10-3.ensures ∙ line_P c.args.s.now c.in-80-eq10.is-0 c.in-80-eq10.is-1 c.in_ok-number-in-80-eq10.ensures c.in_ok-number-in-80-eq10-2.ensures c.in_err-number-in-80-eq10-3.ensures
+
+pub returns-in_ok-number-in-80-eq10-3 : goal.returns-in_ok-number-in-80-eq10-3
+unfolding three_said
+returns-in_ok-number-in-80-eq10-3 c = c.said-in-80-eq10.ensures ∙ line_P c.args.s.now c.in-80-eq10.is-0 c.in-80-eq10.is-1 c.in_ok-number-in-80-eq10.ensures c.in_ok-number-in-80-eq10-2.ensures c.in_ok-number-in-80-eq10-3.ensures
+
+pub returns-in-84-default : goal.returns-in-84-default
+returns-in-84-default c = simp take_rest at c.clocks.ensures ∙ line_T c.args.s.now c.if-n.false c.in-84-default.is-0
+
+pub returns-in-75-eq1 : goal.returns-in-75-eq1
+returns-in-75-eq1 c = c.said-in-75-eq1.ensures ∙ line_K c.args.s.now c.in-75-eq1.is-0 c.in-75-eq1.is-1
 
 pub returns-in_default : goal.returns-in_default
-returns-in_default c =
-    let r = c.in_default.in_default-own.rest in
-    sym
-    (other-line c.args.s.now c.if-n-gt-MOST.false c.if-n-eq0.false c.if-letter-eq84.false r.0.0.0.1 r.0.0.1 r.0.1 r.1)
+returns-in_default c = none-line c.args.s.now c.if-n.false (λ f. omega arith) (λ e f. omega arith) (λ e f. omega arith) (λ e f. omega arith) (λ e f. omega arith) (λ e f. omega arith) (λ e f. omega arith)
+
+pub returns-in_default-2 : goal.returns-in_default-2
+returns-in_default-2 c = none-line c.args.s.now c.if-n.false (λ f. omega arith) (λ e f. omega arith) (λ e f. omega arith) (λ e f. omega arith) (λ e f. omega arith) (λ e f. omega arith) (λ e f. omega arith)
+
+pub returns-in_default-3 : goal.returns-in_default-3
+returns-in_default-3 c = none-line c.args.s.now c.if-n.false (λ f. omega arith) (λ e f. omega arith) (λ e f. omega arith) (λ e f. omega arith) (λ e f. omega arith) (λ e f. omega arith) (λ e f. omega arith)
+
+pub returns-in_default-4 : goal.returns-in_default-4
+returns-in_default-4 c = none-line c.args.s.now c.if-n.false (λ f. omega arith) (λ e f. omega arith) (λ e f. omega arith) (λ e f. omega arith) (λ e f. omega arith) (λ e f. omega arith) (λ e f. omega arith)
+
+pub returns-in_default-5 : goal.returns-in_default-5
+returns-in_default-5 c = none-line c.args.s.now c.if-n.false (λ f. omega arith) (λ e f. omega arith) (λ e f. omega arith) (λ e f. omega arith) (λ e f. omega arith) (λ e f. omega arith) (λ e f. omega arith)
+
+pub returns-in_default-6 : goal.returns-in_default-6
+returns-in_default-6 c = none-line c.args.s.now c.if-n.false (λ f. omega arith) (λ e f. omega arith) (λ e f. omega arith) (λ e f. omega arith) (λ e f. omega arith) (λ e f. omega arith) (λ e f. omega arith)
+
+pub returns-in_default-7 : goal.returns-in_default-7
+returns-in_default-7 c = none-line c.args.s.now c.if-n.false (λ f. omega arith) (λ e f. omega arith) (λ e f. omega arith) (λ e f. omega arith) (λ e f. omega arith) (λ e f. omega arith) (λ e f. omega arith)
