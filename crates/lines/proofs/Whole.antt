@@ -1,6 +1,6 @@
 -- An input read in pieces says what its lines say, wherever it was cut.
 -- Assumes nothing.
-use Rattle.std.specs.Prelude.{Option, None, ◌==◌}
+use Rattle.std.specs.Prelude.{Option, ◌==◌}
 use Prim.Native.Nat.{ℕ}
 use mathlib.Core.Bool.{Bool, true, false, cond}
 use mathlib.Core.List.{List, [], ◌∷◌, ◌++◌, map, append_assoc}

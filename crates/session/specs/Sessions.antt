@@ -1,7 +1,7 @@
 -- The session of the trace programs. Paper 01, "The trace program": "From the fresh device, reads standard input: .. Each line
 -- prints ..". Paper 02, W-209: the Z8536 has one too.
 -- Assumes nothing.
-use Rattle.std.specs.Prelude.{ℕ, suc, ◌+◌, List, [], ◌∷◌, ◌++◌, map, ltb, length, take, drop, if◌then◌else◌}
+use Rattle.std.specs.Prelude.{ℕ, suc, ◌+◌, Option, List, [], ◌∷◌, ◌++◌, map, ltb, length, take, drop, if◌then◌else◌}
 use Rattle.basics.specs.Buffer.{fits}
 use Rattle.chip.specs.declared.Chip.{Chip}
 use Rattle.rules.specs.declared.Answer.{Answer}

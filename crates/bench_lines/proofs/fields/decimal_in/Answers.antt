@@ -1,3 +1,8 @@
+use mathlib.Core.Path.{◌≡◌, sym, ◌∙◌}
+use native.Mathlib.Omega.{arith}
+use Prim.Native.Nat.{◌≤◌}
+use Rattle.lines.specs.Lines.{clocks_in}
+use Rattle.lines.proofs.Tests.{is_below}
 use borrow.Author.Tests.{le-leb}
 use Rattle.bench_lines.specs.Fields.{decimal_in}
 use Rattle.bench_lines.proofs.Plain.{none-plain, plain_by}
@@ -15,9 +20,8 @@ returns-then-f-n c =
 pub returns : goal.returns
 unfolding decimal_in
 returns c =
-    simp (
-      plain_by c.args.f.now c.if-n-eq0.false,
-      c.if-f-n.false,
-      ← c.decimal-d.ensures,
-      le-leb _ _ c.if-most-d.false,
-    )
+    let f = c.args.f.now in
+    let e : c.in-Some.d ≡ clocks_in f = (is_below 4294967296 _ c.in-Some.ensures).0 in
+    let h : clocks_in f ≤ c.args.most = omega arith in
+    c.into.ensures ∙ e
+    ∙ sym (simp (plain_by f c.if-n-eq0.false, c.if-f-n.false, le-leb _ _ h))

@@ -1,4 +1,4 @@
-use Rattle.std.proofs.Common.{◌≡◌, ◌≤◌, drop}
+use Rattle.std.proofs.Common.{◌≡◌, drop}
 use Rattle.lines.proofs.Digits.{read_on}
 use Rattle.lines.proofs.reading.decimal.Given as goal
 

@@ -1,7 +1,6 @@
-use mathlib.Core.Path.{refl, ap, ◌∙◌}
+use mathlib.Core.Path.{refl, ◌∙◌}
 use native.Mathlib.Omega.{arith}
 use Rattle.std.proofs.lemmas.List.{take_rest}
-use Rattle.lines.specs.Lines.{clocks_of}
 use Rattle.lines.proofs.Words.{one_said, two_said, three_said, unfit_line, line_X, line_W, line_R, line_P, line_T, line_K, line_E, none-line}
 use Rattle.lines.proofs.reading.meaning.Goals as goal
 
