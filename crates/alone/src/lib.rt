@@ -8,7 +8,7 @@ ghost use Rattle.theorems.specs.Free.{full_of, terminals_after, count_after, fre
 ghost use Rattle.theorems.specs.Alone.{reloads_in, last_terminal, last_clock, stops_by, half_after, terminal_at, running_after, stopped_after};
 ghost use Rattle.theorems.specs.Alone.{counter_after, terminals_in, struck_by, source_after, placed_by, alone_after, full_count, full_constant};
 
-use rules::{Counter, Fate, Pattern, Source};
+use rules::{Counter, Pattern, Source};
 use theorems::Part;
 
 // 0 read as 65,536.
@@ -16,10 +16,10 @@ use theorems::Part;
 fn full(n: u16) -> u32
     ensures { (result ≡ full_of 65536 n) × (0 < result) × (result ≤ 65536) }
 {
-    if n == 0 {
-        return 65536;
+    match n {
+        0 => 65536,
+        _ => n as u32,
     }
-    n as u32
 }
 
 fn is_square(c: Counter) -> bool
@@ -106,23 +106,25 @@ fn count(c: Counter, k: u32) -> u16
 fn running(version: u8, c: Counter, k: u32) -> Counter
     ensures { result ≡ running_after version c k }
 {
-    let mut e = c;
-    e.count = count(c, k);
-    e.half = half(c, reloads(c, k));
-    e.pulse = (version == 2) & terminal(c, k);
-    e
+    Counter {
+        count: count(c, k),
+        half: half(c, reloads(c, k)),
+        pulse: (version == 2) & terminal(c, k),
+        ..c
+    }
 }
 
 #[tactic(auto, unfolding(theorems::specs::Alone::stopped_after))]
 fn stopped(version: u8, c: Counter, k: u32) -> Counter
     ensures { result ≡ stopped_after version c k }
 {
-    let mut e = c;
-    e.count = 0;
-    e.cip = false;
-    e.half = false;
-    e.pulse = (version == 2) & (k == last_clock(c));
-    e
+    Counter {
+        count: 0,
+        cip: false,
+        half: false,
+        pulse: (version == 2) & (k == last_clock(c)),
+        ..c
+    }
 }
 
 #[tactic(auto, unfolding(theorems::specs::Alone::counter_after))]
@@ -133,9 +135,7 @@ fn counter(version: u8, comes: bool, c: Counter, k: u32) -> Counter
         return c;
     }
     if !c.cip {
-        let mut e = c;
-        e.pulse = false;
-        return e;
+        return Counter { pulse: false, ..c };
     }
     if stops(c, reloads(c, k)) {
         return stopped(version, c, k);
@@ -157,47 +157,30 @@ fn terminals(comes: bool, c: Counter, k: u32) -> u32
     n
 }
 
-// A source to which an event comes, or does not.
-#[tactic(auto, unfolding(theorems::specs::Alone::struck_by, theorems::specs::Alone::left_by))]
-fn struck(hides: bool, happens: bool, s: Source) -> Source
-    ensures { result ≡ struck_by hides happens s }
-{
-    let mut t = s;
-    match sources::fate(hides, happens, s) {
-        Fate::Nothing => s,
-        Fate::Taken => {
-            t.ip = true;
-            t
-        }
-        Fate::Kept => {
-            t.hidden = true;
-            t
-        }
-        Fate::Lost => s,
-    }
-}
-
 // A port's source after a step in which its pattern q matches or not, and did so at the step before, or not.
-#[tactic(auto, unfolding(rules::specs::Patterns::event_by, rules::specs::Patterns::hides_by))]
 pub fn matched(q: Pattern, pmf: bool, matches: bool, s: Source) -> Source
     ensures { result ≡ struck_by (hides_by q) (event_by q pmf matches) s }
 {
-    let priority = q.mode / 2 % 4 == 3;
-    struck(q.ioe & !priority, matches & (priority | !pmf), s)
+    sources::matched(q, pmf, matches, s)
+}
+
+// A source to which a terminal comes.
+#[tactic(auto, unfolding(theorems::specs::Alone::struck_by))]
+fn struck(s: Source) -> Source
+    ensures { result ≡ struck_by true true s }
+{
+    sources::left(sources::fate(true, true, s), s)
 }
 
 #[tactic(auto, unfolding(theorems::specs::Alone::source_after))]
 fn source(s: Source, n: u32) -> Source
     ensures { result ≡ source_after s n }
 {
-    if n == 0 {
-        return s;
+    match n {
+        0 => s,
+        1 => struck(s),
+        _ => struck(struck(s)),
     }
-    let once = struck(true, true, s);
-    if n == 1 {
-        return once;
-    }
-    struck(true, true, once)
 }
 
 // Where an event still finds a place.
@@ -205,20 +188,14 @@ fn source(s: Source, n: u32) -> Source
 fn places(s: Source) -> u32
     ensures { result ≡ free_places s }
 {
-    let first = if s.ip { 0 } else { 1 };
-    let second = if s.err | s.hidden { 0 } else { 1 };
-    first + second
+    u32::from(!s.ip) + u32::from(!(s.err | s.hidden))
 }
 
 #[tactic(auto, unfolding(theorems::specs::Free::lost_after))]
 fn lost(s: Source, n: u32) -> u32
     ensures { result ≡ lost_after s n }
 {
-    let p = places(s);
-    if n < p {
-        return 0;
-    }
-    n - p
+    n.saturating_sub(places(s))
 }
 
 // A counter after n terminals, with its source, which was s.
@@ -226,10 +203,9 @@ fn lost(s: Source, n: u32) -> u32
 pub fn placed(c: Counter, s: Source, n: u32) -> Part
     ensures { result ≡ placed_by c s n }
 {
-    let t = source(s, n);
     Part {
         counter: c,
-        source: t,
+        source: source(s, n),
         terminals: n,
         lost: lost(s, n),
     }

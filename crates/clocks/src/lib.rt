@@ -5,7 +5,7 @@ mod reports;
 
 ghost use Rattle.std.specs.Prelude.{◌≡◌, true, false, not, ◌||◌, eqb, ◌+◌, ◌/◌, ◌%◌, ◌<◌};
 ghost use Rattle.basics.specs.Byte.{bit, num};
-ghost use Rattle.rules.specs.Record.{pattern_at, counter_at};
+ghost use Rattle.rules.specs.Record.{pattern_at};
 ghost use Rattle.rules.specs.Registers.{reset, port_enabled};
 ghost use Rattle.rules.specs.PortData.{seen_at};
 ghost use Rattle.rules.specs.Patterns.{match_of};
@@ -14,7 +14,8 @@ ghost use Rattle.rules.specs.Step.{lines_at, clock_of, ran_of};
 ghost use Rattle.theorems.specs.Moving.{Caught, comes_to, part_after, side_at, side_after, apart, run_with};
 ghost use Rattle.clocks.specs.Room.{Room};
 
-use rules::{Counter, Device, Pattern, Ran, Report, Source};
+use basics::Place;
+use rules::{Counter, Device, Ran, Report, Source};
 use theorems::{Part, Side};
 
 // The timer clocks of n clocks, and the phase after them.
@@ -37,54 +38,41 @@ fn phase_after(n: u32, phase: bool) -> bool
 fn gate_open(d: Device, i: usize, gate_input: bool) -> bool
     ensures { result ≡ (not gate_input || bit (lines_at d i) 3) }
 {
-    if gate_input {
-        return step::lines_at(d, i) / 8 % 2 == 1;
-    }
-    true
+    !gate_input || step::lines_at(d, i) / 8 % 2 == 1
 }
 
 // Whether timer clocks come to counter i, where no link reaches it.
-fn comes(d: Device, i: usize) -> bool
-    requires { i < 3 }
+fn comes(d: Device, i: Place<3>) -> bool
     ensures { result ≡ comes_to d i }
 {
+    let i = i.index();
     let c = d.counters[i];
     let count_input = c.mode / 32 % 2 == 1;
     let gate_input = c.mode / 8 % 2 == 1;
     levels::counter_on(d.config, i) & c.gcb & gate_open(d, i, gate_input) & !count_input
 }
 
-// Of 16 bits are its count and its constant.
-fn sized(c: Counter) -> Counter
-    ensures { (result ≡ c) × (c.count < 65536) × (c.constant < 65536) }
-{
-    c
-}
+// Does nothing: what the types say of a counter, for the proof of `parts`.
+fn words(c: Counter)
+    ensures { (c.count < 65536) × (c.constant < 65536) }
+{}
 
-fn counter_at(d: Device, i: usize) -> Counter
-    requires { i < 3 }
-    ensures { (result ≡ counter_at d i) × ((counter_at d i).count < 65536) × ((counter_at d i).constant < 65536) }
-{
-    let c = d.counters[i];
-    sized(c)
-}
-
-// Counter i, which is c, with its source after k timer clocks.
+// Counter i with its source after k timer clocks.
 #[tactic(auto, unfolding(theorems::specs::Moving::part_after))]
-fn part(d: Device, i: usize, c: Counter, k: u32) -> Part
-    requires { (i < 3) × (c ≡ counter_at d i) }
+fn part(d: Device, i: Place<3>, k: u32) -> Part
     ensures { result ≡ part_after d i k }
 {
-    let s = d.sources[Source::of_counter(i)];
+    let c = d.counters[i.index()];
+    let s = d.sources[Source::of_counter(i.index())];
     alone::alone(d.version, comes(d, i), c, s, k)
 }
 
 // Whether the pattern of port p matches what stands there.
 #[tactic(auto, unfolding(rules::specs::Patterns::match_of))]
-fn matches_at(d: Device, p: usize) -> bool
-    requires { p < 2 }
+fn matches_at(d: Device, p: Place<2>) -> bool
     ensures { result ≡ match_of (port_enabled d p) (pattern_at d p) (seen_at d p) (seen_at d p) }
 {
+    let p = p.index();
     let q = d.patterns[p];
     if q.mode / 2 % 4 == 0 {
         return false;
@@ -95,22 +83,18 @@ fn matches_at(d: Device, p: usize) -> bool
 
 // Port p's side after k timer clocks in which nothing that it sees changes.
 #[tactic(auto, unfolding(theorems::specs::Moving::side_after, theorems::specs::Moving::side_at, theorems::specs::Moving::side_by))]
-fn side(d: Device, p: usize, k: u32) -> Side
-    requires { p < 2 }
+fn side(d: Device, p: Place<2>, k: u32) -> Side
     ensures { result ≡ side_after d p k }
 {
-    let q = d.patterns[p];
-    let s = d.sources[Source::of_port(p)];
+    let q = d.patterns[p.index()];
+    let source = d.sources[Source::of_port(p.index())];
     if k == 0 {
-        return Side {
-            pmf: q.pmf,
-            source: s,
-        };
+        return Side { pmf: q.pmf, source };
     }
-    let m = matches_at(d, p);
+    let pmf = matches_at(d, p);
     Side {
-        pmf: m,
-        source: alone::matched(q, q.pmf, m, s),
+        pmf,
+        source: alone::matched(q, q.pmf, pmf, source),
     }
 }
 
@@ -131,23 +115,14 @@ fn all_apart(d: Device) -> bool
 fn with(d: Device, n: u32, one: Part, two: Part, three: Part, a: Side, b: Side) -> Ran
     ensures { result ≡ run_with d n (record { one = one; two = two; three = three; a = a; b = b }) }
 {
-    let c = one.counter;
-    let e = two.counter;
-    let f = three.counter;
-    let s = one.source;
-    let t = two.source;
-    let u = three.source;
-    let v = a.source;
-    let w = b.source;
-    let p = d.patterns[0];
-    let q = d.patterns[1];
-    let mut r = d;
-    r.patterns = [Pattern { pmf: a.pmf, ..p }, Pattern { pmf: b.pmf, ..q }];
-    r.counters = [c, e, f];
-    r.sources = [u, v, t, w, s];
-    r.phase = phase_after(n, d.phase);
+    let mut e = d;
+    e.patterns[0].pmf = a.pmf;
+    e.patterns[1].pmf = b.pmf;
+    e.counters = [one.counter, two.counter, three.counter];
+    e.sources = [three.source, a.source, two.source, b.source, one.source];
+    e.phase = phase_after(n, d.phase);
     Ran {
-        device: r,
+        device: e,
         report: Report {
             terminals: [one.terminals, two.terminals, three.terminals],
             lost: [one.lost, two.lost, three.lost],
@@ -161,21 +136,21 @@ fn parts(n: u32, d: Device) -> Ran
     requires { Caught d × (reset d ≡ false) }
     ensures { result ≡ ran_of n d }
 {
+    words(d.counters[0]);
+    words(d.counters[1]);
+    words(d.counters[2]);
     let k = timer_clocks(n, d.phase);
-    let x = counter_at(d, 0);
-    let y = counter_at(d, 1);
-    let z = counter_at(d, 2);
-    let one = part(d, 0, x, k);
-    let three = part(d, 2, z, k);
-    let a = side(d, 0, k);
+    let one = part(d, Place { at: 0 }, k);
+    let three = part(d, Place { at: 2 }, k);
+    let a = side(d, Place { at: 0 }, k);
     if all_apart(d) {
-        return with(d, n, one, part(d, 1, y, k), three, a, side(d, 1, k));
+        let two = part(d, Place { at: 1 }, k);
+        let b = side(d, Place { at: 1 }, k);
+        return with(d, n, one, two, three, a, b);
     }
     let pair = linked::linked(k, d);
-    let c = pair.two;
-    let b = pair.side;
-    let s = d.sources[Source::CT2];
-    with(d, n, one, alone::placed(c, s, pair.terminals), three, a, b)
+    let two = alone::placed(pair.two, d.sources[Source::CT2], pair.terminals);
+    with(d, n, one, two, three, a, pair.side)
 }
 
 // One PCLK clock, with the report so far.
@@ -185,20 +160,17 @@ fn clock(s: Ran) -> Ran
     ensures { result ≡ clock_of s }
 {
     let d = s.device;
-    let r = s.report;
     if d.reset() {
         return s;
     }
-    let mut e = d;
+    let e = Device {
+        phase: !d.phase,
+        ..d
+    };
     if d.phase {
-        e.phase = false;
-        return reports::reported(r, step::step(true, d, e));
+        return reports::reported(s.report, step::step(true, d, e));
     }
-    e.phase = true;
-    Ran {
-        device: e,
-        report: r,
-    }
+    Ran { device: e, ..s }
 }
 
 // n clocks of a record whose catchers have not caught, which no sound record is: of the first two one is a timer clock, and catches.
@@ -214,22 +186,24 @@ fn catching(n: u32, start: Ran) -> Ran
         return first;
     }
     let second = clock(first);
-    let d = second.device;
-    let r = second.report;
-    reports::on_top(r, parts(n - 2, d))
+    reports::on_top(second.report, parts(n - 2, second.device))
+}
+
+// Before the first clock.
+fn start(device: Device) -> Ran
+    ensures { result ≡ record { device = device; report = no_report } }
+{
+    Ran {
+        device,
+        report: Report::default(),
+    }
 }
 
 // n PCLK clocks.
 pub fn run(n: u32, d: Device) -> Ran
     ensures { result ≡ ran_of n d }
 {
-    let start = Ran {
-        device: d,
-        report: Report {
-            terminals: [0; 3],
-            lost: [0; 3],
-        },
-    };
+    let start = start(d);
     if d.reset() {
         return start;
     }

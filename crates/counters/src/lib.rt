@@ -8,6 +8,15 @@ ghost use Rattle.counters.specs.Rests.{rests_by};
 
 use rules::{Counted, Counter, Link, Reach};
 
+// What comes to a counter in a step: what its link brings, a timer clock or none, and its four lines, as D0 to D3, before the step and after (a).
+#[derive(Clone, Copy)]
+pub struct Inputs {
+    pub link: Link,
+    pub timer: bool,
+    pub were: u8,
+    pub are: u8,
+}
+
 fn continuous(c: Counter) -> bool
     ensures { result ≡ continuous c }
 {
@@ -56,18 +65,19 @@ fn takes_trigger(enabled: bool, c: Counter) -> bool
 fn load(c: Counter) -> Counter
     ensures { result ≡ loaded c }
 {
-    let mut e = c;
-    e.count = c.constant;
-    e.cip = true;
-    e.half = false;
-    e.pulse = false;
-    e
+    Counter {
+        count: c.constant,
+        cip: true,
+        half: false,
+        pulse: false,
+        ..c
+    }
 }
 
 fn less_one(n: u16) -> u16
     ensures { result ≡ less_one 65536 n }
 {
-    std::num::wrapping_sub_u16(n, 1)
+    n.wrapping_sub(1)
 }
 
 // What reaching 0 does.
@@ -75,20 +85,26 @@ fn less_one(n: u16) -> u16
 fn at_terminal(c: Counter) -> Counter
     ensures { result ≡ terminal_of c }
 {
-    let mut e = c;
     if square(c) & !c.half {
-        e.count = c.constant;
-        e.half = true;
-        return e;
+        return Counter {
+            count: c.constant,
+            half: true,
+            ..c
+        };
     }
-    e.half = false;
     if continuous(c) {
-        e.count = c.constant;
-        return e;
+        return Counter {
+            count: c.constant,
+            half: false,
+            ..c
+        };
     }
-    e.count = 0;
-    e.cip = false;
-    e
+    Counter {
+        count: 0,
+        cip: false,
+        half: false,
+        ..c
+    }
 }
 
 // One count: the pulse rises with a terminal, in version 2, and falls with any other.
@@ -98,18 +114,20 @@ fn count(version: u8, c: Counter) -> Counted
 {
     let n = less_one(c.count);
     if n == 0 {
-        let mut t = at_terminal(c);
-        t.pulse = version == 2;
         return Counted {
-            counter: t,
+            counter: Counter {
+                pulse: version == 2,
+                ..at_terminal(c)
+            },
             terminal: true,
         };
     }
-    let mut e = c;
-    e.count = n;
-    e.pulse = false;
     Counted {
-        counter: e,
+        counter: Counter {
+            count: n,
+            pulse: false,
+            ..c
+        },
         terminal: false,
     }
 }
@@ -128,42 +146,37 @@ fn pulse(version: u8, c: Counter) -> bool
 pub fn output(version: u8, c: Counter) -> bool
     ensures { result ≡ output_of version c }
 {
-    let m = c.mode % 4;
-    if m == 0 {
-        return pulse(version, c);
+    match c.mode % 4 {
+        0 => pulse(version, c),
+        1 => c.cip,
+        _ => c.cip & c.half,
     }
-    if m == 1 {
-        return c.cip;
-    }
-    c.cip & c.half
 }
 
 // The count that reaches a counter in a step.
 #[tactic(auto, unfolding(rules::specs::Counters::reach_of))]
-fn count_source(c: Counter, k: Link, timer: bool, were: u8, are: u8) -> bool
-    ensures { result ≡ (reach_of c k timer were are).count }
+fn count_source(c: Counter, x: Inputs) -> bool
+    ensures { result ≡ (reach_of c x.link x.timer x.were x.are).count }
 {
-    if k.only {
-        return k.count;
+    if x.link.only {
+        return x.link.count;
     }
-    let count_rises = !(were / 2 % 2 == 1) & (are / 2 % 2 == 1);
     if count_input(c) {
-        return count_rises;
+        return !(x.were / 2 % 2 == 1) & (x.are / 2 % 2 == 1);
     }
-    timer
+    x.timer
 }
 
 #[tactic(auto, unfolding(rules::specs::Counters::reach_of))]
-fn reach(c: Counter, k: Link, timer: bool, were: u8, are: u8) -> Reach
-    ensures { result ≡ reach_of c k timer were are }
+fn reach(c: Counter, x: Inputs) -> Reach
+    ensures { result ≡ reach_of c x.link x.timer x.were x.are }
 {
-    let counted = count_source(c, k, timer, were, are);
-    let trigger_rises = !(were / 4 % 2 == 1) & (are / 4 % 2 == 1);
-    let gate_line = are / 8 % 2 == 1;
+    let trigger_rises = !(x.were / 4 % 2 == 1) & (x.are / 4 % 2 == 1);
+    let gate_line = x.are / 8 % 2 == 1;
     Reach {
-        trigger: (trigger_input(c) & trigger_rises) | k.trigger,
-        gate: (!gate_input(c) | gate_line) & k.gate,
-        count: counted,
+        trigger: (trigger_input(c) & trigger_rises) | x.link.trigger,
+        gate: (!gate_input(c) | gate_line) & x.link.gate,
+        count: count_source(c, x),
     }
 }
 
@@ -175,10 +188,8 @@ fn clock(version: u8, c: Counter) -> Counted
     if c.cip {
         return count(version, c);
     }
-    let mut e = c;
-    e.pulse = false;
     Counted {
-        counter: e,
+        counter: Counter { pulse: false, ..c },
         terminal: false,
     }
 }
@@ -203,26 +214,18 @@ fn turn_by(version: u8, enabled: bool, h: Reach, c: Counter) -> Counted
 }
 
 // A counter's turn in a step.
-pub fn turn(
-    version: u8,
-    enabled: bool,
-    c: Counter,
-    k: Link,
-    timer: bool,
-    were: u8,
-    are: u8,
-) -> Counted
-    ensures { result ≡ turn_of version enabled (reach_of c k timer were are) c }
+pub fn turn(version: u8, enabled: bool, c: Counter, x: Inputs) -> Counted
+    ensures { result ≡ turn_of version enabled (reach_of c x.link x.timer x.were x.are) c }
 {
-    turn_by(version, enabled, reach(c, k, timer, were, are), c)
+    turn_by(version, enabled, reach(c, x), c)
 }
 
 // Whether a counter's turn leaves it as it is: no trigger that it takes, and no count.
 #[tactic(auto, unfolding(crate::specs::Rests::rests_by, rules::specs::Counters::clocks))]
-pub fn rests(enabled: bool, c: Counter, k: Link, timer: bool, were: u8, are: u8) -> bool
-    ensures { result ≡ rests_by enabled (reach_of c k timer were are) c }
+pub fn rests(enabled: bool, c: Counter, x: Inputs) -> bool
+    ensures { result ≡ rests_by enabled (reach_of c x.link x.timer x.were x.are) c }
 {
-    let h = reach(c, k, timer, were, are);
+    let h = reach(c, x);
     !(h.trigger & takes_trigger(enabled, c)) & !(enabled & c.gcb & h.gate & h.count)
 }
 
@@ -230,13 +233,14 @@ pub fn rests(enabled: bool, c: Counter, k: Link, timer: bool, were: u8, are: u8)
 fn freeze(v: bool, c: Counter) -> Counter
     ensures { result ≡ frozen_by v c }
 {
-    let mut e = c;
     if v & !c.rcc {
-        e.rcc = true;
-        e.frozen = c.count;
-        return e;
+        return Counter {
+            rcc: true,
+            frozen: c.count,
+            ..c
+        };
     }
-    e
+    c
 }
 
 #[tactic(auto, unfolding(rules::specs::Counters::triggered_by))]
@@ -255,8 +259,7 @@ pub fn command(enabled: bool, b: u8, c: Counter) -> Counter
     ensures { result ≡ commanded_by enabled b c }
 {
     let rcc = b / 8 % 2 == 1;
+    let gcb = b / 4 % 2 == 1;
     let triggered = b / 2 % 2 == 1;
-    let mut e = c;
-    e.gcb = b / 4 % 2 == 1;
-    trigger(triggered, enabled, freeze(rcc, e))
+    trigger(triggered, enabled, freeze(rcc, Counter { gcb, ..c }))
 }

@@ -7,7 +7,7 @@ ghost use Rattle.linked.specs.Chase.{lowered_of, with_terminals, Above, Leaps, H
 
 use crate::stage::Stage;
 use rules::Counter;
-use theorems::{Pair, Side};
+use theorems::Pair;
 
 // Some clocks of a run at once.
 #[derive(Clone, Copy)]
@@ -29,22 +29,12 @@ pub struct Chase {
 }
 
 // Whether two are the same, their terminals apart.
-fn same_side(x: Side, y: Side) -> bool
-    ensures { result ≡ true → x ≡ y }
-{
-    let s = x.source;
-    let t = y.source;
-    (x.pmf == y.pmf) & record::same_source(s, t)
-}
-
+#[tactic(auto, unfolding(crate::specs::Chase::with_terminals))]
 fn came_back(x: Pair, y: Pair) -> bool
     ensures { result ≡ true → with_terminals x y.terminals ≡ y }
 {
-    let a = x.one;
-    let b = y.one;
-    let c = x.two;
-    let e = y.two;
-    record::same_counter(a, b) & record::same_counter(c, e) & same_side(x.side, y.side)
+    let terminals = y.terminals;
+    Pair { terminals, ..x } == y
 }
 
 // Whether a counter has moved and may go on.
@@ -61,9 +51,8 @@ fn lower(k: u32, moves: bool, c: Counter) -> Counter
     ensures { result ≡ lower_of k moves c }
 {
     if moves {
-        let mut e = c;
-        e.count = ((c.count as u32) - k) as u16;
-        return e;
+        let count = ((c.count as u32) - k) as u16;
+        return Counter { count, ..c };
     }
     c
 }
@@ -74,22 +63,11 @@ fn lowered(k: u32, a: bool, b: bool, x: Pair) -> Pair
     requires { Above k a b x }
     ensures { result ≡ lowered_of k a b x }
 {
-    let c = x.one;
-    let e = x.two;
     Pair {
-        one: lower(k, a, c),
-        two: lower(k, b, e),
+        one: lower(k, a, x.one),
+        two: lower(k, b, x.two),
         ..x
     }
-}
-
-fn least(k: u32, n: u32) -> u32
-    ensures { (result ≤ k) × (result ≤ n) × (0 < k → 0 < n → 0 < result) }
-{
-    if n < k {
-        return n;
-    }
-    k
 }
 
 // How many of k counts leave a counter that moves above 1.
@@ -98,7 +76,7 @@ fn room(k: u32, moves: bool, c: Counter) -> u32
     ensures { (result ≤ k) × (moves ≡ true → result + 2 ≤ c.count) × (0 < k → 0 < result) × (c.count < 65536) }
 {
     if moves {
-        return least(k, (c.count as u32) - 2);
+        return k.min((c.count as u32) - 2);
     }
     k
 }
@@ -108,7 +86,7 @@ fn only_moved(a: bool, b: bool, then: Pair, now: Pair) -> bool
     requires { Above 3 a b then }
     ensures { result ≡ true → now ≡ lowered_of 1 a b then }
 {
-    (now.terminals == then.terminals) & came_back(now, lowered(1, a, b, then))
+    now == lowered(1, a, b, then)
 }
 
 // All clocks like the first.
@@ -116,12 +94,10 @@ fn far(f: Stage, a: bool, b: bool, x: Pair, left: u32) -> Leap
     requires { (0 < left) × Above 3 a b x × (paired_on f x ≡ lowered_of 1 a b x) }
     ensures { Leaps f x left result }
 {
-    let c = x.one;
-    let e = x.two;
-    let k = room(room(left, a, c), b, e);
+    let clocks = room(room(left, a, x.one), b, x.two);
     Leap {
-        pair: lowered(k, a, b, x),
-        clocks: k,
+        pair: lowered(clocks, a, b, x),
+        clocks,
     }
 }
 
@@ -131,7 +107,7 @@ fn leapt(f: Stage, x: Pair, left: u32) -> Leap
     requires { (0 < left) × (x.terminals + left ≤ 4294967295) }
     ensures { Leaps f x left result }
 {
-    let next = crate::stage::clock(f, x);
+    let next = f.clock(x);
     let a = moves(x.one, next.one);
     let b = moves(x.two, next.two);
     if only_moved(a, b, x, next) {
@@ -148,11 +124,9 @@ fn advanced(f: Stage, c: Chase) -> Chase
     requires { Holds f c × (0 < c.left) }
     ensures { Follows f c result × (result.left < c.left) × (0 < result.since) }
 {
-    let now = c.now;
-    let l = leapt(f, now, c.left);
-    let there = l.pair;
+    let l = leapt(f, c.now, c.left);
     Chase {
-        now: there,
+        now: l.pair,
         since: c.since + l.clocks,
         left: c.left - l.clocks,
         ..c
@@ -166,24 +140,18 @@ fn skipped(f: Stage, c: Chase) -> Chase
     ensures { Follows f c result }
 {
     let q = c.left / c.since;
-    let now = c.now;
-    let then = c.anchor;
     let there = Pair {
-        terminals: now.terminals + q * (now.terminals - then.terminals),
-        ..now
+        terminals: c.now.terminals + q * (c.now.terminals - c.anchor.terminals),
+        ..c.now
     };
     Chase {
         now: there,
         anchor: there,
         since: 0,
         leaps: 0,
-        span: c.span,
         left: c.left % c.since,
+        ..c
     }
-}
-
-fn doubled(n: u32) -> u32 {
-    if n < 2147483648 { 2 * n } else { n }
 }
 
 // The present is the anchor, for twice as many leaps.
@@ -191,14 +159,12 @@ fn renewed(f: Stage, c: Chase) -> Chase
     requires { Holds f c }
     ensures { Follows f c result }
 {
-    let now = c.now;
     Chase {
-        now: now,
-        anchor: now,
+        anchor: c.now,
         since: 0,
         leaps: 0,
-        span: doubled(c.span),
-        left: c.left,
+        span: c.span.saturating_mul(2),
+        ..c
     }
 }
 
@@ -207,9 +173,7 @@ fn turned(f: Stage, c: Chase) -> Chase
     requires { Holds f c × (0 < c.since) }
     ensures { Follows f c result }
 {
-    let now = c.now;
-    let then = c.anchor;
-    if came_back(now, then) {
+    if came_back(c.now, c.anchor) {
         return skipped(f, c);
     }
     if c.leaps < c.span {
@@ -234,6 +198,7 @@ fn by_rounds(f: Stage, x: Pair, k: u32) -> Pair
         span: 1,
         left: k,
     };
+    // Stays: the clocks that are left fall by a leap at a time, however long, so no range counts them.
     while 0 < c.left {
         c = turned(f, advanced(f, c));
     }
@@ -252,6 +217,7 @@ pub(crate) fn run(f: Stage, x: Pair, k: u32) -> Pair
     let mut now = x;
     let mut left = k;
     let mut leaps = 0u32;
+    // Stays: it ends by the clocks that are left or by the leaps, whichever comes first.
     while (0 < left) & (leaps < A_WHILE) {
         let l = leapt(f, now, left);
         now = l.pair;

@@ -10,6 +10,7 @@ ghost use Rattle.basics.specs.Iterate.{iterate};
 ghost use Rattle.theorems.specs.Moving.{pair_of, paired_by};
 
 use rules::Device;
+use stage::Stage;
 use theorems::Pair;
 
 // k timer clocks from a record.
@@ -17,6 +18,5 @@ use theorems::Pair;
 pub fn linked(k: u32, d: Device) -> Pair
     ensures { result ≡ iterate k (paired_by d) (pair_of d) }
 {
-    let f = stage::from(d);
-    chase::run(f, stage::pair(d), k)
+    chase::run(Stage::of(d), stage::pair(d), k)
 }

@@ -1,11 +1,10 @@
 // One timer clock of CT1, CT2 and Port B's side.
-ghost use Rattle.std.specs.Prelude.{◌≡◌, false, ◌+◌, ◌*◌, ◌<◌};
-ghost use Rattle.basics.specs.Byte.{num};
-ghost use Rattle.rules.specs.Record.{counter_at};
-ghost use Rattle.rules.specs.Counters.{output_of, link_of};
-ghost use Rattle.theorems.specs.Moving.{side_at, pair_of};
-ghost use Rattle.linked.specs.Stage.{showing, shown_with, stage_of, turn_on, link_on, seen_on, side_on, paired_on};
+ghost use Rattle.std.specs.Prelude.{◌≡◌, ◌<◌};
+ghost use Rattle.theorems.specs.Moving.{pair_of};
+ghost use Rattle.linked.specs.Stage.{showing, shown_with, stage_of, turn_on, link_on, seen_on, paired_on};
 
+use basics::Place;
+use counters::Inputs;
 use rules::{Counted, Counter, Device, Link, Pattern, Source};
 use theorems::{Pair, Side};
 
@@ -27,151 +26,113 @@ pub struct Stage {
 fn show(v: bool, c: Counter) -> Counter
     ensures { result ≡ showing v c }
 {
-    let mut e = c;
-    e.count = 1;
-    e.cip = v;
-    e.half = v;
-    e.pulse = v;
-    e
+    Counter {
+        count: 1,
+        cip: v,
+        half: v,
+        pulse: v,
+        ..c
+    }
 }
 
 #[tactic(auto, unfolding(crate::specs::Stage::shown_with, theorems::specs::Moving::seen_with))]
 fn shown(d: Device, a: bool, b: bool) -> u8
     ensures { result ≡ shown_with d a b }
 {
-    let x = d.counters[0];
-    let y = d.counters[1];
-    let z = d.counters[2];
-    let mut e = d;
-    e.counters = [show(a, x), show(b, y), z];
-    levels::seen_at(e, 1)
-}
-
-#[tactic(auto, unfolding(crate::specs::Stage::stage_of))]
-pub(crate) fn from(d: Device) -> Stage
-    ensures { result ≡ stage_of d }
-{
-    let q = d.patterns[1];
-    Stage {
-        version: d.version,
-        lc: d.config % 4,
-        enabled: [
-            levels::counter_on(d.config, 0),
-            levels::counter_on(d.config, 1),
-        ],
-        lines: [step::lines_at(d, 0), step::lines_at(d, 1)],
-        watched: levels::port_enabled(d, 1),
-        pattern: q,
-        seen: [
-            shown(d, false, false),
-            shown(d, false, true),
-            shown(d, true, false),
-            shown(d, true, true),
-        ],
-    }
+    let [one, two, three] = d.counters;
+    let counters = [show(a, one), show(b, two), three];
+    levels::seen_at(Device { counters, ..d }, 1)
 }
 
 #[tactic(auto, unfolding(theorems::specs::Moving::pair_of, theorems::specs::Moving::side_at))]
 pub(crate) fn pair(d: Device) -> Pair
     ensures { result ≡ pair_of d }
 {
-    let x = d.counters[0];
-    let y = d.counters[1];
-    let s = d.sources[Source::B];
     Pair {
-        one: x,
-        two: y,
+        one: d.counters[0],
+        two: d.counters[1],
         terminals: 0,
         side: Side {
             pmf: d.patterns[1].pmf,
-            source: s,
+            source: d.sources[Source::B],
         },
     }
 }
 
-#[tactic(auto, unfolding(crate::specs::Stage::turn_on))]
-fn turn(f: Stage, i: usize, k: Link, c: Counter) -> Counted
-    requires { i < 2 }
-    ensures { result ≡ turn_on f i k c }
-{
-    counters::turn(f.version, f.enabled[i], c, k, true, f.lines[i], f.lines[i])
-}
-
-#[tactic(auto, unfolding(crate::specs::Stage::link_on))]
-fn link(f: Stage, before: Counter, after: Counter) -> Link
-    ensures { result ≡ link_on f before after }
-{
-    step::link(
-        f.lc,
-        counters::output(f.version, before),
-        counters::output(f.version, after),
-    )
-}
-
-fn place(a: bool, b: bool) -> usize
-    ensures { (result ≡ 2 * num a + num b) × (result < 4) }
-{
-    let high = if a { 2 } else { 0 };
-    let low = if b { 1 } else { 0 };
-    high + low
-}
-
-#[tactic(auto, unfolding(crate::specs::Stage::seen_on))]
-fn seen(f: Stage, one: Counter, two: Counter) -> u8
-    ensures { result ≡ seen_on f one two }
-{
-    f.seen[place(
-        counters::output(f.version, one),
-        counters::output(f.version, two),
-    )]
-}
-
-#[tactic(auto, unfolding(crate::specs::Stage::side_on))]
-fn sided(f: Stage, before: u8, after: u8, x: Side) -> Side
-    ensures { result ≡ side_on f before after x }
-{
-    let q = f.pattern;
-    let s = x.source;
-    let m = step::matches(f.watched, q, before, after);
-    Side {
-        pmf: m,
-        source: alone::matched(q, x.pmf, m, s),
+impl Stage {
+    #[tactic(auto, unfolding(crate::specs::Stage::stage_of))]
+    pub(crate) fn of(d: Device) -> Self
+        ensures { result ≡ stage_of d }
+    {
+        Stage {
+            version: d.version,
+            lc: d.config % 4,
+            enabled: [
+                levels::counter_on(d.config, 0),
+                levels::counter_on(d.config, 1),
+            ],
+            lines: [step::lines_at(d, 0), step::lines_at(d, 1)],
+            watched: levels::port_enabled(d, 1),
+            pattern: d.patterns[1],
+            seen: [
+                shown(d, false, false),
+                shown(d, false, true),
+                shown(d, true, false),
+                shown(d, true, true),
+            ],
+        }
     }
-}
 
-fn add(n: u32, t: bool) -> u32
-    requires { n < 4294967295 }
-    ensures { result ≡ n + num t }
-{
-    if t {
-        return n + 1;
+    // The turn of a counter c that stands at i.
+    #[tactic(auto, unfolding(crate::specs::Stage::turn_on))]
+    fn turn(self, i: Place<2>, link: Link, c: Counter) -> Counted
+        ensures { result ≡ turn_on self i link c }
+    {
+        let lines = self.lines[i.index()];
+        let x = Inputs {
+            link,
+            timer: true,
+            were: lines,
+            are: lines,
+        };
+        counters::turn(self.version, self.enabled[i.index()], c, x)
     }
-    n
-}
 
-// One timer clock.
-#[tactic(auto, unfolding(crate::specs::Stage::paired_on))]
-pub(crate) fn clock(f: Stage, x: Pair) -> Pair
-    requires { x.terminals < 4294967295 }
-    ensures { result ≡ paired_on f x }
-{
-    let unlinked = Link {
-        trigger: false,
-        gate: true,
-        only: false,
-        count: false,
-    };
-    let one = x.one;
-    let two = x.two;
-    let r = turn(f, 0, unlinked, one);
-    let first = r.counter;
-    let s = turn(f, 1, link(f, one, first), two);
-    let second = s.counter;
-    let side = sided(f, seen(f, one, two), seen(f, first, second), x.side);
-    Pair {
-        one: first,
-        two: second,
-        terminals: add(x.terminals, s.terminal),
-        side: side,
+    #[tactic(auto, unfolding(crate::specs::Stage::link_on))]
+    fn link(self, before: Counter, after: Counter) -> Link
+        ensures { result ≡ link_on self before after }
+    {
+        step::link(
+            self.lc,
+            counters::output(self.version, before),
+            counters::output(self.version, after),
+        )
+    }
+
+    #[tactic(auto, unfolding(crate::specs::Stage::seen_on))]
+    fn seen(self, one: Counter, two: Counter) -> u8
+        ensures { result ≡ seen_on self one two }
+    {
+        let a = counters::output(self.version, one);
+        let b = counters::output(self.version, two);
+        self.seen[2 * usize::from(a) + usize::from(b)]
+    }
+
+    // One timer clock.
+    #[tactic(auto, unfolding(crate::specs::Stage::paired_on, crate::specs::Stage::side_on, step::specs::Parts::pattern_by))]
+    pub(crate) fn clock(self, x: Pair) -> Pair
+        requires { x.terminals < 4294967295 }
+        ensures { result ≡ paired_on self x }
+    {
+        let one = self.turn(Place { at: 0 }, step::UNLINKED, x.one).counter;
+        let two = self.turn(Place { at: 1 }, self.link(x.one, one), x.two);
+        let before = self.seen(x.one, x.two);
+        let after = self.seen(one, two.counter);
+        Pair {
+            one,
+            two: two.counter,
+            terminals: x.terminals + u32::from(two.terminal),
+            side: step::side(self.watched, self.pattern, before, after, x.side),
+        }
     }
 }

@@ -56,9 +56,10 @@ use Rattle.rules.specs.Registers.{commanded, counter_command_of, counter_on, kin
 use Rattle.rules.specs.Sound.{same_counter, same_of, same_source, sound_of}
 use Rattle.rules.specs.Step.{catchers, lines_at, ran_of, step_of}
 use Rattle.session.specs.Sessions.{answered, answers_in, answers_last, bytes_read, fed_by, finished_by, start_of}
-use Rattle.theorems.specs.Alone.{alone_after, placed_by, struck_by}
+use Rattle.theorems.specs.Alone.{alone_after, left_by, placed_by, struck_by}
 use Rattle.theorems.specs.Moving.{pair_of, paired_by}
 use Rattle.theorems.specs.Used.{of}
+use Rattle.step.specs.Parts.{pattern_by}
 use Rattle.step.specs.Still.{has_caught}
 use Rattle.texts.specs.Answers.{answer_text, decimal_text, glyph_of, levels_text}
 use Rattle.texts.specs.Kept.{no_text, pushed, typed}
@@ -228,11 +229,14 @@ use Rattle.sources.specs.contracts.command as sources·command
 use Rattle.sources.specs.contracts.port_command as sources·port-command
 use Rattle.sources.specs.contracts.counter_command as sources·counter-command
 use Rattle.sources.specs.contracts.fate as sources·fate
+use Rattle.sources.specs.contracts.left as sources·left
+use Rattle.sources.specs.contracts.matched as sources·matched
 use Rattle.step.specs.contracts.step as step·step
 use Rattle.step.specs.contracts.lines_at as step·lines-at
 use Rattle.step.specs.contracts.link as step·link
 use Rattle.step.specs.contracts.catch_all as step·catch-all
 use Rattle.step.specs.contracts.matches as step·matches
+use Rattle.step.specs.contracts.side as step·side
 use Rattle.step.specs.contracts.has_caught as step·has-caught
 use Rattle.step.specs.contracts.untimed as step·untimed
 use Rattle.texts.specs.contracts.glyph as texts·glyph
@@ -607,12 +611,12 @@ module _ {M : Type 1} (𝓤 : Ura M) where
       one-result 𝓤 counters·turn.ended counters·turn.clauses
       (λ κs a.
       turn_of a.0 a.1.0
-      (reach_of a.1.1.0 a.1.1.1.0 a.1.1.1.1.0 a.1.1.1.1.1.0 a.1.1.1.1.1.1.0) a.1.1.0) refl
+      (reach_of a.1.1.0 a.1.1.1.0.link a.1.1.1.0.timer a.1.1.1.0.were a.1.1.1.0.are) a.1.1.0) refl
 
   pub counters-rests : OneResult 𝓤 counters·rests.ended counters·rests.clauses
   counters-rests =
       one-result 𝓤 counters·rests.ended counters·rests.clauses
-      (λ κs a. rests_by a.0 (reach_of a.1.0 a.1.1.0 a.1.1.1.0 a.1.1.1.1.0 a.1.1.1.1.1.0) a.1.0) refl
+      (λ κs a. rests_by a.0 (reach_of a.1.0 a.1.1.0.link a.1.1.0.timer a.1.1.0.were a.1.1.0.are) a.1.0) refl
 
   pub counters-command : OneResult 𝓤 counters·command.ended counters·command.clauses
   counters-command = one-result 𝓤 counters·command.ended counters·command.clauses (λ κs a. commanded_by a.0 a.1.0 a.1.1.0) refl
@@ -807,6 +811,14 @@ module _ {M : Type 1} (𝓤 : Ura M) where
   pub sources-fate : OneResult 𝓤 sources·fate.ended sources·fate.clauses
   sources-fate = one-result 𝓤 sources·fate.ended sources·fate.clauses (λ κs a. fate_of a.0 a.1.0 a.1.1.0) refl
 
+  pub sources-left : OneResult 𝓤 sources·left.ended sources·left.clauses
+  sources-left = one-result 𝓤 sources·left.ended sources·left.clauses (λ κs a. left_by a.0 a.1.0) refl
+
+  pub sources-matched : OneResult 𝓤 sources·matched.ended sources·matched.clauses
+  sources-matched =
+      one-result 𝓤 sources·matched.ended sources·matched.clauses
+      (λ κs a. struck_by (hides_by a.0) (event_by a.0 a.1.0 a.1.1.0) a.1.1.1.0) refl
+
   pub step-step : OneResult 𝓤 step·step.ended step·step.clauses
   step-step = one-result 𝓤 step·step.ended step·step.clauses (λ κs a. step_of a.0 a.1.0 a.1.1.0) refl
 
@@ -821,6 +833,9 @@ module _ {M : Type 1} (𝓤 : Ura M) where
 
   pub step-matches : OneResult 𝓤 step·matches.ended step·matches.clauses
   step-matches = one-result 𝓤 step·matches.ended step·matches.clauses (λ κs a. match_of a.0 a.1.0 a.1.1.0 a.1.1.1.0) refl
+
+  pub step-side : OneResult 𝓤 step·side.ended step·side.clauses
+  step-side = one-result 𝓤 step·side.ended step·side.clauses (λ κs a. pattern_by a.0 a.1.0 a.1.1.0 a.1.1.1.0 a.1.1.1.1.0) refl
 
   pub step-has-caught : OneResult 𝓤 step·has-caught.ended step·has-caught.clauses
   step-has-caught = one-result 𝓤 step·has-caught.ended step·has-caught.clauses (λ κs a. has_caught a.0) refl

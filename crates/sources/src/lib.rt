@@ -1,10 +1,11 @@
 // One interrupt source: commands, events, and what its command register reads.
 #![tactic(auto)]
 
-ghost use Rattle.std.specs.Prelude.{◌≡◌, true, ◌≤◌};
+ghost use Rattle.std.specs.Prelude.{◌≡◌, ◌≤◌};
 ghost use Rattle.rules.specs.Registers.{ip_cleared, commanded, status_of, port_command_of, counter_command_of};
-ghost use Rattle.rules.specs.With.{with_ius, with_ie, with_ip};
+ghost use Rattle.rules.specs.Patterns.{event_by, hides_by};
 ghost use Rattle.rules.specs.Interrupts.{fate_of};
+ghost use Rattle.theorems.specs.Alone.{left_by, struck_by};
 
 use rules::{Counter, Fate, Pattern, Source};
 
@@ -13,35 +14,12 @@ use rules::{Counter, Fate, Pattern, Source};
 fn clear_ip(s: Source) -> Source
     ensures { result ≡ ip_cleared s }
 {
-    let mut e = s;
-    e.ip = s.hidden;
-    e.err = s.hidden;
-    e.hidden = false;
-    e
-}
-
-fn set_ius(s: Source, v: bool) -> Source
-    ensures { result ≡ with_ius s v }
-{
-    let mut e = s;
-    e.ius = v;
-    e
-}
-
-fn set_ie(s: Source, v: bool) -> Source
-    ensures { result ≡ with_ie s v }
-{
-    let mut e = s;
-    e.ie = v;
-    e
-}
-
-fn set_ip(s: Source) -> Source
-    ensures { result ≡ with_ip s true }
-{
-    let mut e = s;
-    e.ip = true;
-    e
+    Source {
+        ip: s.hidden,
+        err: s.hidden,
+        hidden: false,
+        ..s
+    }
 }
 
 // A written command, 0 to 7.
@@ -50,13 +28,16 @@ pub fn command(s: Source, n: u8) -> Source
     ensures { result ≡ commanded s n }
 {
     match n {
-        1 => set_ius(clear_ip(s), false),
-        2 => set_ius(s, true),
-        3 => set_ius(s, false),
-        4 => set_ip(s),
+        1 => Source {
+            ius: false,
+            ..clear_ip(s)
+        },
+        2 => Source { ius: true, ..s },
+        3 => Source { ius: false, ..s },
+        4 => Source { ip: true, ..s },
         5 => clear_ip(s),
-        6 => set_ie(s, true),
-        7 => set_ie(s, false),
+        6 => Source { ie: true, ..s },
+        7 => Source { ie: false, ..s },
         _ => s,
     }
 }
@@ -102,4 +83,26 @@ pub fn fate(hides: bool, happens: bool, s: Source) -> Fate
         return Fate::Kept;
     }
     Fate::Lost
+}
+
+// A source after what became of an event.
+#[tactic(auto, unfolding(theorems::specs::Alone::left_by))]
+pub fn left(f: Fate, s: Source) -> Source
+    ensures { result ≡ left_by f s }
+{
+    match f {
+        Fate::Taken => Source { ip: true, ..s },
+        Fate::Kept => Source { hidden: true, ..s },
+        Fate::Nothing | Fate::Lost => s,
+    }
+}
+
+// A port's source after a step in which its pattern q matches or not, and did so at the step before, or not.
+#[tactic(auto, unfolding(rules::specs::Patterns::event_by, rules::specs::Patterns::hides_by, theorems::specs::Alone::struck_by))]
+pub fn matched(q: Pattern, pmf: bool, matches: bool, s: Source) -> Source
+    ensures { result ≡ struck_by (hides_by q) (event_by q pmf matches) s }
+{
+    let priority = q.mode / 2 % 4 == 3;
+    let happens = matches & (priority | !pmf);
+    left(fate(q.ioe & !priority, happens, s), s)
 }

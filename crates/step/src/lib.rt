@@ -4,7 +4,7 @@
 mod pattern;
 mod still;
 
-ghost use Rattle.std.specs.Prelude.{◌≡◌, [], ◌∷◌, ◌<◌};
+ghost use Rattle.std.specs.Prelude.{◌≡◌};
 ghost use Rattle.rules.specs.Record.{counter_at};
 ghost use Rattle.rules.specs.Counters.{output_of, link_of, reach_of, turn_of};
 ghost use Rattle.rules.specs.PortData.{caught_of};
@@ -12,9 +12,10 @@ ghost use Rattle.rules.specs.Patterns.{match_of};
 ghost use Rattle.rules.specs.Interrupts.{came, was_lost};
 ghost use Rattle.rules.specs.Step.{lines_at, catchers, caught_at, step_of};
 ghost use Rattle.levels.specs.Looks.{looks_of};
-ghost use Rattle.theorems.specs.Alone.{left_by};
-ghost use Rattle.step.specs.Parts.{turn_by, turn_at, pattern_by, pattern_after};
+ghost use Rattle.step.specs.Parts.{lines_seen, inputs_in, turn_by, turn_at, pattern_by, pattern_after};
 
+use basics::Place;
+use counters::Inputs;
 use levels::Looks;
 use rules::{Counter, Device, Fate, Link, Pattern, Port, Source, Stepped};
 pub use still::{has_caught, untimed};
@@ -34,44 +35,14 @@ struct Turn {
 fn came(f: Fate) -> bool
     ensures { result ≡ came f }
 {
-    match f {
-        Fate::Nothing => false,
-        Fate::Taken => true,
-        Fate::Kept => true,
-        Fate::Lost => true,
-    }
+    f != Fate::Nothing
 }
 
 #[tactic(auto, unfolding(rules::specs::Interrupts::was_lost))]
 fn was_lost(f: Fate) -> bool
     ensures { result ≡ was_lost f }
 {
-    match f {
-        Fate::Nothing => false,
-        Fate::Taken => false,
-        Fate::Kept => false,
-        Fate::Lost => true,
-    }
-}
-
-// A source after what became of its event.
-#[tactic(auto, unfolding(theorems::specs::Alone::left_by))]
-fn after_fate(s: Source, f: Fate) -> Source
-    ensures { result ≡ left_by f s }
-{
-    let mut e = s;
-    match f {
-        Fate::Nothing => s,
-        Fate::Taken => {
-            e.ip = true;
-            e
-        }
-        Fate::Kept => {
-            e.hidden = true;
-            e
-        }
-        Fate::Lost => s,
-    }
+    f == Fate::Lost
 }
 
 // The four lines of counter i, as D0 to D3.
@@ -79,35 +50,46 @@ fn after_fate(s: Source, f: Fate) -> Source
 pub fn lines_at(d: Device, i: usize) -> u8
     ensures { result ≡ lines_at d i }
 {
-    if i == 0 {
-        return levels::path_at(d, 1) / 16;
+    match i {
+        0 => levels::path_at(d, 1) / 16,
+        1 => levels::path_at(d, 1) % 16,
+        _ => levels::path_at(d, 2) % 16,
     }
-    if i == 1 {
-        return levels::path_at(d, 1) % 16;
-    }
-    levels::path_at(d, 2) % 16
 }
 
-// The turn of a counter and its source; its lines were and are, before the step and after (a).
-#[tactic(auto, unfolding(crate::specs::Parts::turn_by))]
-fn turn_of(
-    version: u8,
-    enabled: bool,
-    c: Counter,
-    s: Source,
-    k: Link,
-    timer: bool,
-    were: u8,
-    are: u8,
-) -> Turn
-    ensures { result ≡ turn_by (turn_of version enabled (reach_of c k timer were are) c) s }
+// The same lines where the path values are known.
+fn lines(l: Looks, i: Place<3>) -> u8
+    ensures { result ≡ lines_seen l i }
 {
-    let r = counters::turn(version, enabled, c, k, timer, were, are);
+    match i.index() {
+        0 => l.b / 16,
+        1 => l.b % 16,
+        _ => l.c % 16,
+    }
+}
+
+// What comes to counter i with this link: w saw its lines before the step, n sees them after (a).
+fn inputs(link: Link, timer: bool, w: Looks, n: Looks, i: Place<3>) -> Inputs
+    ensures { result ≡ inputs_in link timer w n i }
+{
+    Inputs {
+        link,
+        timer,
+        were: lines(w, i),
+        are: lines(n, i),
+    }
+}
+
+// The turn of a counter and its source.
+#[tactic(auto, unfolding(crate::specs::Parts::turn_by))]
+fn turn_of(version: u8, enabled: bool, c: Counter, s: Source, x: Inputs) -> Turn
+    ensures { result ≡ turn_by (turn_of version enabled (reach_of c x.link x.timer x.were x.are) c) s }
+{
+    let r = counters::turn(version, enabled, c, x);
     let f = sources::fate(true, r.terminal, s);
-    let moved = r.counter;
     Turn {
-        counter: moved,
-        source: after_fate(s, f),
+        counter: r.counter,
+        source: sources::left(f, s),
         came: came(f),
         lost: was_lost(f),
     }
@@ -115,22 +97,13 @@ fn turn_of(
 
 // That of counter i of the device d.
 #[tactic(auto, unfolding(crate::specs::Parts::turn_at))]
-fn counter_turn(k: Link, timer: bool, were: u8, are: u8, i: usize, d: Device) -> Turn
-    requires { i < 3 }
-    ensures { result ≡ turn_at k timer were are i d }
+fn counter_turn(x: Inputs, i: Place<3>, d: Device) -> Turn
+    ensures { result ≡ turn_at x.link x.timer x.were x.are i d }
 {
-    let c = d.counters[i];
+    let i = i.index();
+    let enabled = levels::counter_on(d.config, i);
     let s = d.sources[Source::of_counter(i)];
-    turn_of(
-        d.version,
-        levels::counter_on(d.config, i),
-        c,
-        s,
-        k,
-        timer,
-        were,
-        are,
-    )
+    turn_of(d.version, enabled, d.counters[i], s, x)
 }
 
 // What LC makes of CT1's output before the step and after (b).
@@ -148,17 +121,23 @@ pub fn link(lc: u8, before: bool, after: bool) -> Link
 }
 
 // What reaches the counters 1 and 3: nothing of a link.
-const UNLINKED: Link = Link {
+pub const UNLINKED: Link = Link {
     trigger: false,
     gate: true,
     only: false,
     count: false,
 };
 
-fn ct1_output(version: u8, d: Device) -> bool
-    ensures { result ≡ output_of version (counter_at d 0) }
+const CT1: Place<3> = Place { at: 0 };
+
+const CT2: Place<3> = Place { at: 1 };
+
+const CT3: Place<3> = Place { at: 2 };
+
+fn ct1_output(d: Device) -> bool
+    ensures { result ≡ output_of d.version (counter_at d 0) }
 {
-    counters::output(version, d.counters[0])
+    counters::output(d.version, d.counters[0])
 }
 
 #[tactic(auto, unfolding(rules::specs::PortData::caught_of))]
@@ -168,22 +147,15 @@ fn caught(enabled: bool, q: Port, path: u8) -> u8
     ports::places(enabled, q) & (q.catcher | path)
 }
 
-fn caught_at(d: Device, p: usize) -> Port
-    requires { p < 3 }
+fn caught_at(d: Device, p: Place<3>) -> Port
     ensures { result ≡ caught_at d p }
 {
-    let q = d.ports[p];
-    let mut e = q;
+    let p = p.index();
     let r = levels::effective_at(d, p);
-    e.catcher = caught(levels::port_on(d.config, p), r, r.outside ^ r.polarity);
-    e
-}
-
-// The ports with their catchers.
-fn caught_ports(d: Device) -> [Port; 3]
-    ensures { result ≡ caught_at d 0 ∷ caught_at d 1 ∷ caught_at d 2 ∷ [] }
-{
-    [caught_at(d, 0), caught_at(d, 1), caught_at(d, 2)]
+    Port {
+        catcher: caught(levels::port_on(d.config, p), r, r.outside ^ r.polarity),
+        ..d.ports[p]
+    }
 }
 
 // The catchers of all ports.
@@ -191,10 +163,13 @@ fn caught_ports(d: Device) -> [Port; 3]
 pub fn catch_all(d: Device) -> Device
     ensures { result ≡ catchers d }
 {
-    let mut e = d;
-    let ports = caught_ports(d);
-    e.ports = ports;
-    e
+    let a = Place { at: 0 };
+    let b = Place { at: 1 };
+    let c = Place { at: 2 };
+    Device {
+        ports: [caught_at(d, a), caught_at(d, b), caught_at(d, c)],
+        ..d
+    }
 }
 
 // Whether the pattern p of a port matches, by what it saw before and after.
@@ -209,30 +184,30 @@ pub fn matches(enabled: bool, p: Pattern, before: u8, after: u8) -> bool
             | (is_or & pattern::or_match(p, before, after)))
 }
 
-// The turn of a port's pattern q and of its source, by what it saw before and after.
-#[tactic(auto, unfolding(crate::specs::Parts::pattern_by, rules::specs::Patterns::event_by, rules::specs::Patterns::hides_by))]
-fn side_of(enabled: bool, q: Pattern, before: u8, after: u8, s: Source) -> Side
-    ensures { result ≡ pattern_by enabled q before after s }
+// A port's side after what its pattern q saw before and after.
+#[tactic(auto, unfolding(crate::specs::Parts::pattern_by))]
+pub fn side(enabled: bool, q: Pattern, before: u8, after: u8, x: Side) -> Side
+    ensures { result ≡ pattern_by enabled q before after x }
 {
-    let matched = matches(enabled, q, before, after);
-    let priority = q.mode / 2 % 4 == 3;
-    let happens = matched & (priority | !q.pmf);
-    let f = sources::fate(q.ioe & !priority, happens, s);
+    let pmf = matches(enabled, q, before, after);
     Side {
-        pmf: matched,
-        source: after_fate(s, f),
+        pmf,
+        source: sources::matched(q, x.pmf, pmf, x.source),
     }
 }
 
 // That of port p of the device d.
-#[tactic(auto, unfolding(crate::specs::Parts::pattern_after))]
-fn pattern_turn(p: usize, before: u8, after: u8, d: Device) -> Side
-    requires { p < 2 }
+#[tactic(auto, unfolding(crate::specs::Parts::pattern_after, theorems::specs::Moving::side_at))]
+fn pattern_turn(p: Place<2>, before: u8, after: u8, d: Device) -> Side
     ensures { result ≡ pattern_after p before after d }
 {
+    let p = p.index();
     let q = d.patterns[p];
-    let s = d.sources[Source::of_port(p)];
-    side_of(levels::port_on(d.config, p), q, before, after, s)
+    let x = Side {
+        pmf: q.pmf,
+        source: d.sources[Source::of_port(p)],
+    };
+    side(levels::port_on(d.config, p), q, before, after, x)
 }
 
 // One step, from the record after (a) and the one before: n is seen after (a), w was seen before, and s is seen after (e).
@@ -240,29 +215,21 @@ fn step_by(timer: bool, d1: Device, n: Looks, d0: Device, w: Looks) -> Stepped
     requires { (w ≡ looks_of d0) × (n ≡ looks_of d1) }
     ensures { result ≡ step_of timer d0 d1 }
 {
-    let one = counter_turn(UNLINKED, timer, w.b / 16, n.b / 16, 0, d1);
-    let c1 = one.counter;
-    let s1 = one.source;
-    let output = ct1_output(d0.version, d0);
-    let k = link(d1.config % 4, output, counters::output(d1.version, c1));
-    let two = counter_turn(k, timer, w.b % 16, n.b % 16, 1, d1);
-    let c2 = two.counter;
-    let s2 = two.source;
-    let three = counter_turn(UNLINKED, timer, w.c % 16, n.c % 16, 2, d1);
-    let c3 = three.counter;
-    let s3 = three.source;
-    let mut e = d1;
-    e.counters = [c1, c2, c3];
-    let ports = caught_ports(e);
-    e.ports = ports;
+    let one = counter_turn(inputs(UNLINKED, timer, w, n, CT1), CT1, d1);
+    let output = counters::output(d1.version, one.counter);
+    let k = link(d1.config % 4, ct1_output(d0), output);
+    let two = counter_turn(inputs(k, timer, w, n, CT2), CT2, d1);
+    let three = counter_turn(inputs(UNLINKED, timer, w, n, CT3), CT3, d1);
+    let mut e = catch_all(Device {
+        counters: [one.counter, two.counter, three.counter],
+        ..d1
+    });
     let s = levels::look(e);
-    let a = pattern_turn(0, w.seen_a, s.seen_a, d1);
-    let b = pattern_turn(1, w.seen_b, s.seen_b, d1);
-    let sa = a.source;
-    let sb = b.source;
+    let a = pattern_turn(Place { at: 0 }, w.seen_a, s.seen_a, d1);
+    let b = pattern_turn(Place { at: 1 }, w.seen_b, s.seen_b, d1);
     e.patterns[0].pmf = a.pmf;
     e.patterns[1].pmf = b.pmf;
-    e.sources = [s3, sa, s2, sb, s1];
+    e.sources = [three.source, a.source, two.source, b.source, one.source];
     Stepped {
         device: e,
         terminals: [one.came, two.came, three.came],
@@ -274,7 +241,5 @@ fn step_by(timer: bool, d1: Device, n: Looks, d0: Device, w: Looks) -> Stepped
 pub fn step(timer: bool, d0: Device, d1: Device) -> Stepped
     ensures { result ≡ step_of timer d0 d1 }
 {
-    let w = levels::look(d0);
-    let n = levels::look(d1);
-    step_by(timer, d1, n, d0, w)
+    step_by(timer, d1, levels::look(d1), d0, levels::look(d0))
 }

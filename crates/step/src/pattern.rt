@@ -13,7 +13,7 @@ pub(crate) fn and_match(p: Pattern, before: u8, after: u8) -> bool
     (o != 0) & (o & (h ^ 255) == 0)
 }
 
-#[tactic(auto, unfolding(rules::specs::Patterns::or_match))]
+#[tactic(auto, unfolding(rules::specs::Patterns::or_match), using(basics::proofs::Laws::nonzero))]
 pub(crate) fn or_match(p: Pattern, before: u8, after: u8) -> bool
     ensures { result ≡ or_match p before after }
 {

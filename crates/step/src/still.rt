@@ -1,14 +1,21 @@
 // A step that is no timer clock. In most of them nothing moves but by the direct effect, and then the record is as (a) left it.
 ghost use Rattle.std.specs.Prelude.{◌≡◌, false};
+ghost use Rattle.rules.specs.Record.{counter_at};
+ghost use Rattle.rules.specs.Registers.{counter_enabled};
+ghost use Rattle.rules.specs.Counters.{reach_of};
 ghost use Rattle.rules.specs.Step.{step_of};
+ghost use Rattle.counters.specs.Rests.{rests_by};
 ghost use Rattle.levels.specs.Looks.{looks_of};
 ghost use Rattle.step.specs.Still.{same_catchers, has_caught, stands_by, counters_rest, still};
 
-use crate::{UNLINKED, catch_all, ct1_output, link, matches, step_by};
+use crate::{CT1, CT2, CT3, UNLINKED, catch_all, ct1_output, inputs, link, matches, step_by};
+use basics::Place;
+use counters::Inputs;
 use levels::Looks;
 use rules::{Device, Pattern};
 
 // Whether two records have the same catchers.
+// Stays: one field of each of three ports; a == of the ports would compare all six.
 fn same_catchers(e: Device, d: Device) -> bool
     ensures { result ≡ same_catchers e d }
 {
@@ -34,6 +41,14 @@ fn stands(q: Pattern, matches: bool) -> bool
     (matches == q.pmf) & !(matches & (priority | !q.pmf))
 }
 
+// Whether the turn of counter i leaves it as it is.
+fn rests(x: Inputs, i: Place<3>, d: Device) -> bool
+    ensures { result ≡ rests_by (counter_enabled d i) (reach_of (counter_at d i) x.link x.timer x.were x.are) (counter_at d i) }
+{
+    let i = i.index();
+    counters::rests(levels::counter_on(d.config, i), d.counters[i], x)
+}
+
 // Whether no counter's turn does anything; w and n are the looks of the two records.
 #[tactic(auto, unfolding(crate::specs::Still::counters_rest, crate::specs::Still::rests_at, rules::specs::Step::lines_at))]
 fn counters_rest(d0: Device, d1: Device, w: Looks, n: Looks) -> bool
@@ -41,17 +56,14 @@ fn counters_rest(d0: Device, d1: Device, w: Looks, n: Looks) -> bool
     ensures { result ≡ counters_rest d0 d1 }
 {
     let lc = d1.config % 4;
-    let k = link(lc, ct1_output(d0.version, d0), ct1_output(d1.version, d1));
+    let k = link(lc, ct1_output(d0), ct1_output(d1));
     // Where no line has moved and CT1's output has not risen, nothing comes to any of them.
     if (w.b == n.b) & (w.c == n.c) & !k.count {
         return true;
     }
-    let on1 = levels::counter_on(d1.config, 0);
-    let on2 = levels::counter_on(d1.config, 1);
-    let on3 = levels::counter_on(d1.config, 2);
-    counters::rests(on1, d1.counters[0], UNLINKED, false, w.b / 16, n.b / 16)
-        & counters::rests(on2, d1.counters[1], k, false, w.b % 16, n.b % 16)
-        & counters::rests(on3, d1.counters[2], UNLINKED, false, w.c % 16, n.c % 16)
+    rests(inputs(UNLINKED, false, w, n, CT1), CT1, d1)
+        & rests(inputs(k, false, w, n, CT2), CT2, d1)
+        & rests(inputs(UNLINKED, false, w, n, CT3), CT3, d1)
 }
 
 // Whether nothing moves after (a).
@@ -78,6 +90,5 @@ pub fn untimed(d0: Device, d1: Device) -> Device
     if is_still(d0, d1, w, n) {
         return d1;
     }
-    let s = step_by(false, d1, n, d0, w);
-    s.device
+    step_by(false, d1, n, d0, w).device
 }

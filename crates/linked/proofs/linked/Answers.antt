@@ -13,4 +13,4 @@ use Rattle.linked.proofs.linked.Goals as goal
 pub returns : goal.returns
 returns c =
     let s = c.args in
-    c.run.ensures ∙ ap₂ (λ (f : Stage) (x : Pair). iterate s.k (paired_on f) x) c.from-f.ensures c.pair.ensures ∙ bridge s.d s.k
+    c.run.ensures ∙ ap₂ (λ (f : Stage) (x : Pair). iterate s.k (paired_on f) x) c.of.ensures c.pair.ensures ∙ bridge s.d s.k

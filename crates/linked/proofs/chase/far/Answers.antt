@@ -8,4 +8,4 @@ use Rattle.linked.proofs.chase.far.Goals as goal
 pub returns : goal.returns
 returns c =
     let p = c.requires in
-    far-leaps c.args.f c.args.a c.args.b c.args.x c.args.left _ _ c.room.ensures c.room-k.ensures p.0 p.1 p.2 _ c.lowered.ensures
+    far-leaps c.args.f c.args.a c.args.b c.args.x c.args.left _ _ c.room.ensures c.room-clocks.ensures p.0 p.1 p.2 _ c.lowered.ensures
