@@ -1,10 +1,10 @@
 -- Every line of a CTC has room in a text. A label has 16 bytes, a column 12.
 -- Assumes nothing.
-use Rattle.std.specs.Prelude.{if◌then◌else◌, ◌==◌}
-use Prim.Native.Nat.{ℕ, zero, suc, ◌-◌, ◌≤◌}
-use mathlib.Core.Bool.{Bool, true, false}
-use mathlib.Core.List.{List, [], ◌∷◌}
-use mathlib.Core.Path.{◌≡◌}
+use Rattle.std.specs.Prelude.{◌==◌}
+use Prim.Native.Nat.{ℕ, ◌-◌, ◌≤◌}
+use mathlib.Core.Bool.{Bool}
+use mathlib.Core.List.{[]}
+use mathlib.Core.Path.{◌≡◌, refl}
 use native.Mathlib.Omega.{arith}
 use lib.Dec.{ltb}
 use lib.ListN.{length, get_or, length-append}
@@ -14,20 +14,12 @@ use Rattle.texts.proofs.Keeping.{bytes-line}
 use Rattle.ctc_rules.specs.declared.Channel.{Channel}
 use Rattle.ctc_rules.specs.declared.Ctc.{Ctc}
 use Rattle.ctc_rules.specs.Record.{channel_at}
-use Rattle.words.specs.Cells.{bit_cell, yes_cell, number_cell}
+use Rattle.words.proofs.Rows.{width}
+use Rattle.words.proofs.Whole.{pick, bit-cell, yes-cell, number-cell}
 use Rattle.ctc_words.specs.Shown.{kind_cell, factor_cell, edge_cell, start_cell, on_cell, constant_cell, waits_cell}
 use Rattle.ctc_words.specs.Shown.{labels, channel_cell, channels_line, device_line, shown_ctc}
 
--- the one or the other
-pick : (m : ℕ) (b : Bool) (x y : List ℕ) → length x ≤ m → length y ≤ m → length (if b then x else y) ≤ m
-pick m true x y p q = p
-pick m false x y p q = q
-
 -- ---- columns
-number-cell : (n : ℕ) → length (number_cell n) ≤ 12
-unfolding number_cell spelled
-number-cell n = omega arith
-
 constant_cell_lem : (l : Bool) (n : ℕ) → length (constant_cell l n) ≤ 12
 unfolding constant_cell spelled
 constant_cell_lem l n = pick 12 l _ _ (number-cell _) (omega arith)
@@ -36,10 +28,6 @@ waits-cell : (c : Channel) → length (waits_cell c) ≤ 12
 unfolding waits_cell spelled
 waits-cell c =
     pick 12 c.awaits _ _ (omega arith) (pick 12 c.running _ _ (omega arith) (pick 12 c.loaded _ _ (omega arith) (omega arith)))
-
-bit-cell : (f : Bool) → length (bit_cell f) ≤ 12
-unfolding bit_cell spelled
-bit-cell f = pick 12 f _ _ (omega arith) (omega arith)
 
 kind-cell : (f : Bool) → length (kind_cell f) ≤ 12
 unfolding kind_cell spelled
@@ -61,10 +49,6 @@ on-cell : (f : Bool) → length (on_cell f) ≤ 12
 unfolding on_cell spelled
 on-cell f = pick 12 f _ _ (omega arith) (omega arith)
 
-yes-cell : (f : Bool) → length (yes_cell f) ≤ 12
-unfolding yes_cell spelled
-yes-cell f = pick 12 f _ _ (omega arith) (omega arith)
-
 channel-cell : (c : Channel) (row : ℕ) → length (channel_cell c row) ≤ 12
 unfolding channel_cell
 channel-cell c row =
@@ -81,48 +65,9 @@ channel-cell c row =
     (pick 12 (row == 10) _ _ (bit-cell _) (bit-cell _)))))))))))
 
 -- ---- lines
-abbrev Wide : List (List ℕ) → Type 0
-Wide [] = Unit {0}
-Wide (x ∷ l) = (length x ≤ 16) × Wide l
-
-label : (row : ℕ) (l : List (List ℕ)) → Wide l → length (get_or l row []) ≤ 16
-label row [] w = omega arith
-label zero (x ∷ l) w = w.0
-label (suc row) (x ∷ l) w = label row l w.1
-
-wide : Wide labels
+label : (row : ℕ) → length (get_or labels row []) ≤ 16
 unfolding spelled
-wide = (
-  omega arith,
-  (
-    omega arith,
-    (
-      omega arith,
-      (
-        omega arith,
-        (
-          omega arith,
-          (
-            omega arith,
-            (
-              omega arith,
-              (
-                omega arith,
-                (
-                  omega arith,
-                  (
-                    omega arith,
-                    (omega arith, (omega arith, tt)),
-                  ),
-                ),
-              ),
-            ),
-          ),
-        ),
-      ),
-    ),
-  ),
-)
+label row = width 16 labels row refl
 
 channels-line : (d : Ctc) (row : ℕ) → length (channels_line d row) ≤ text_room
 unfolding channels_line spelled
@@ -130,7 +75,7 @@ channels-line d row =
     simp length-append
     (omega (
       arith,
-      label row labels wide,
+      label row,
       channel-cell (channel_at d 0) row,
       channel-cell (channel_at d 1) row,
       channel-cell (channel_at d 2) row,

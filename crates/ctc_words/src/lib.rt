@@ -18,11 +18,11 @@ pub const LINES: usize = 14;
 fn channels_line(d: Ctc, row: usize) -> Text
     ensures { result ≡ typed no_text (channels_line d row) }
 {
-    let t = cells::label(&cells::LABELS, row);
-    let t0 = cells::channel(t, d.channels[0], row);
-    let t1 = cells::channel(t0, d.channels[1], row);
-    let t2 = cells::channel(t1, d.channels[2], row);
-    push(cells::channel(t2, d.channels[3], row), b'\n')
+    let mut t = words::label(&cells::LABELS, row);
+    for c in &d.channels {
+        t = cells::channel(t, *c, row);
+    }
+    push(t, b'\n')
 }
 
 // What the device has beside its channels.
@@ -42,14 +42,12 @@ fn device_line(d: Ctc) -> Text
 pub fn line(d: Ctc, n: usize) -> Text
     ensures { result ≡ typed no_text (shown_ctc d n) }
 {
-    if n == 0 {
-        return word(
+    match n {
+        0 => word(
             texts::no_text(),
             b"channel                    0           1           2           3\n",
-        );
+        ),
+        1..13 => channels_line(d, n - 1),
+        _ => device_line(d),
     }
-    if n < 13 {
-        return channels_line(d, n - 1);
-    }
-    device_line(d)
 }

@@ -6,7 +6,7 @@
 use Prim.Native.Nat.{◌+◌, ◌*◌, ◌%◌, ℕ}
 use contract.Monad.{fact_mono}
 use seplogic.Ra.Ura.{Ura}
-use mathlib.Core.List.{List}
+use mathlib.Core.List.{List, []}
 use mathlib.Core.Path.{refl}
 use Rattle.basics.specs.Buffer.{fits, laid_of}
 use Rattle.basics.specs.Byte.{byte_in, byte_of, with_byte}
@@ -63,6 +63,7 @@ use Rattle.step.specs.Parts.{pattern_by}
 use Rattle.step.specs.Still.{has_caught}
 use Rattle.texts.specs.Answers.{answer_text, decimal_text, glyph_of, levels_text}
 use Rattle.texts.specs.Kept.{no_text, pushed, typed}
+use Rattle.words.specs.Cells.{bit_cell, yes_cell, number_cell}
 use Rattle.words.specs.Shown.{pointer_line, shown_line}
 use Rattle.z8536.specs.Z8536.{event_z8536, fresh_z8536, sound_z8536}
 use lib.ListN.{drop, get_or, length}
@@ -155,6 +156,11 @@ use Rattle.linked.specs.contracts.linked as linked·linked
 use Rattle.registers.specs.contracts.kind_of as registers·kind-of
 use Rattle.words.specs.contracts.line as words·line
 use Rattle.words.specs.contracts.pointer_line as words·pointer-line
+use Rattle.words.specs.contracts.label as words·label
+use Rattle.words.specs.contracts.either as words·either
+use Rattle.words.specs.contracts.bit_cell as words·bit-cell
+use Rattle.words.specs.contracts.yes_cell as words·yes-cell
+use Rattle.words.specs.contracts.number_cell as words·number-cell
 use Rattle.phrases.specs.contracts.word as phrases·word
 use Rattle.phrases.specs.contracts.refusal_line as phrases·refusal-line
 use Rattle.phrases.specs.contracts.trouble_line as phrases·trouble-line
@@ -554,6 +560,21 @@ module _ {M : Type 1} (𝓤 : Ura M) where
 
   pub words-pointer-line : OneResult 𝓤 words·pointer-line.ended words·pointer-line.clauses
   words-pointer-line = one-result 𝓤 words·pointer-line.ended words·pointer-line.clauses (λ κs a. typed no_text (pointer_line a.0 a.1.0)) refl
+
+  pub words-label : OneResult 𝓤 words·label.ended words·label.clauses
+  words-label = one-result 𝓤 words·label.ended words·label.clauses (λ κs a. typed no_text (get_or a.0.now a.1.0 [])) refl
+
+  pub words-either : OneResult 𝓤 words·either.ended words·either.clauses
+  words-either = one-result 𝓤 words·either.ended words·either.clauses (λ κs a. typed a.0 (cond a.1.0 a.1.1.0.now a.1.1.1.0.now)) refl
+
+  pub words-bit-cell : OneResult 𝓤 words·bit-cell.ended words·bit-cell.clauses
+  words-bit-cell = one-result 𝓤 words·bit-cell.ended words·bit-cell.clauses (λ κs a. typed a.0 (bit_cell a.1.0)) refl
+
+  pub words-yes-cell : OneResult 𝓤 words·yes-cell.ended words·yes-cell.clauses
+  words-yes-cell = one-result 𝓤 words·yes-cell.ended words·yes-cell.clauses (λ κs a. typed a.0 (yes_cell a.1.0)) refl
+
+  pub words-number-cell : OneResult 𝓤 words·number-cell.ended words·number-cell.clauses
+  words-number-cell = one-result 𝓤 words·number-cell.ended words·number-cell.clauses (λ κs a. typed a.0 (number_cell a.1.0)) refl
 
   pub phrases-word : OneResult 𝓤 phrases·word.ended phrases·word.clauses
   phrases-word = one-result 𝓤 phrases·word.ended phrases·word.clauses (λ κs a. typed a.0 a.1.0.now) refl

@@ -1,3 +1,4 @@
 pub mod Typing
+pub mod Columns
 pub mod Rows
 pub mod Whole

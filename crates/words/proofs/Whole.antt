@@ -26,16 +26,16 @@ use Rattle.words.specs.Shown.{transfer_labels, transfer_cell, transfer_line, fir
 use Rattle.words.proofs.Rows.{width}
 
 -- the one or the other
-pick : (m : ℕ) (b : Bool) (x y : List ℕ) → length x ≤ m → length y ≤ m → length (if b then x else y) ≤ m
+pub pick : (m : ℕ) (b : Bool) (x y : List ℕ) → length x ≤ m → length y ≤ m → length (if b then x else y) ≤ m
 pick m true x y p q = p
 pick m false x y p q = q
 
 -- ---- columns
-bit-cell : (f : Bool) → length (bit_cell f) ≤ 12
+pub bit-cell : (f : Bool) → length (bit_cell f) ≤ 12
 unfolding bit_cell spelled
 bit-cell f = pick 12 f _ _ (omega arith) (omega arith)
 
-yes-cell : (f : Bool) → length (yes_cell f) ≤ 12
+pub yes-cell : (f : Bool) → length (yes_cell f) ≤ 12
 unfolding yes_cell spelled
 yes-cell f = pick 12 f _ _ (omega arith) (omega arith)
 
@@ -43,7 +43,7 @@ byte-cell : (n : ℕ) → length (byte_cell n) ≤ 12
 unfolding byte_cell spelled
 byte-cell n = omega arith
 
-number-cell : (n : ℕ) → length (number_cell n) ≤ 12
+pub number-cell : (n : ℕ) → length (number_cell n) ≤ 12
 unfolding number_cell spelled
 number-cell n = omega arith
 

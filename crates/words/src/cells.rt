@@ -18,14 +18,13 @@ pub(crate) fn bit(x: u8, k: u8) -> bool
 
 // The label at a row's place in a table, on a new line; beyond the table none.
 #[tactic(auto, unfolding(texts::specs::Kept::typed))]
-pub(crate) fn label(rows: &[[u8; 16]], row: usize) -> Text
+pub fn label(rows: &[[u8; 16]], row: usize) -> Text
     ensures { result ≡ typed no_text (get_or rows.now row []) }
 {
-    let t = texts::no_text();
-    if row < rows.len() {
-        return word(t, &rows[row]);
+    match rows.get(row) {
+        Some(w) => word(texts::no_text(), w),
+        None => texts::no_text(),
     }
-    t
 }
 
 // A name and its bit.
@@ -40,7 +39,7 @@ pub(crate) fn named(t: Text, w: &[u8], f: bool) -> Text
 }
 
 // One of two words.
-pub(crate) fn either(t: Text, f: bool, yes: &[u8; 12], no: &[u8; 12]) -> Text
+pub fn either(t: Text, f: bool, yes: &[u8; 12], no: &[u8; 12]) -> Text
     ensures { result ≡ typed t (cond f yes.now no.now) }
 {
     if f {
@@ -50,14 +49,14 @@ pub(crate) fn either(t: Text, f: bool, yes: &[u8; 12], no: &[u8; 12]) -> Text
 }
 
 #[tactic(auto, unfolding(crate::specs::Cells::bit_cell, texts::specs::Spelled::spelled))]
-pub(crate) fn bit_cell(t: Text, f: bool) -> Text
+pub fn bit_cell(t: Text, f: bool) -> Text
     ensures { result ≡ typed t (bit_cell f) }
 {
     either(t, f, b"           1", b"           0")
 }
 
 #[tactic(auto, unfolding(crate::specs::Cells::yes_cell, texts::specs::Spelled::spelled))]
-pub(crate) fn yes_cell(t: Text, f: bool) -> Text
+pub fn yes_cell(t: Text, f: bool) -> Text
     ensures { result ≡ typed t (yes_cell f) }
 {
     either(t, f, b"         yes", b"          no")
@@ -84,7 +83,7 @@ fn digit(p: u32, n: u32) -> u8
 }
 
 #[tactic(auto, unfolding(texts::specs::Kept::typed, crate::specs::Cells::number_cell, texts::specs::Spelled::spelled))]
-pub(crate) fn number_cell(t: Text, n: u32) -> Text
+pub fn number_cell(t: Text, n: u32) -> Text
     ensures { result ≡ typed t (number_cell n) }
 {
     let t4 = push(word(t, b"       "), digit(10000, n));

@@ -1,9 +1,10 @@
 // The counters, a fact a line: its label, and a column for each counter.
-ghost use Rattle.std.specs.Prelude.{◌≡◌, ◌<◌};
+ghost use Rattle.std.specs.Prelude.{◌≡◌};
 ghost use Rattle.texts.specs.Kept.{no_text, typed};
 ghost use Rattle.words.specs.Shown.{mode_cell, count_shown, frozen_cell, counter_cell, counter_column, counter_line};
 
 use crate::cells::{bit, bit_cell, either, label, number_cell, yes_cell};
+use basics::Place;
 use phrases::word;
 use rules::{Counter, Device};
 use texts::{Text, push};
@@ -106,20 +107,20 @@ fn counter_cell(t: Text, version: u8, enabled: bool, c: Counter, row: usize) -> 
 
 // Counter i's column.
 #[tactic(auto, unfolding(crate::specs::Shown::counter_column))]
-fn counter_column(t: Text, d: Device, i: usize, row: usize) -> Text
-    requires { i < 3 }
+fn counter_column(t: Text, d: Device, i: Place<3>, row: usize) -> Text
     ensures { result ≡ typed t (counter_column d i row) }
 {
-    let c = d.counters[i];
-    counter_cell(t, d.version, levels::counter_on(d.config, i), c, row)
+    let enabled = levels::counter_on(d.config, i.index());
+    counter_cell(t, d.version, enabled, d.counters[i.index()], row)
 }
 
 #[tactic(auto, unfolding(texts::specs::Kept::typed, crate::specs::Shown::counter_line, texts::specs::Spelled::spelled))]
 pub(crate) fn counter_line(d: Device, row: usize) -> Text
     ensures { result ≡ typed no_text (counter_line d row) }
 {
-    let t = label(&LABELS, row);
-    let a = counter_column(t, d, 0, row);
-    let b = counter_column(a, d, 1, row);
-    push(counter_column(b, d, 2, row), b'\n')
+    let mut t = label(&LABELS, row);
+    for at in 0..3 {
+        t = counter_column(t, d, Place { at }, row);
+    }
+    push(t, b'\n')
 }

@@ -9,8 +9,9 @@ ghost use Rattle.texts.specs.Kept.{no_text, typed};
 ghost use Rattle.words.specs.Shown.{port_cell, port_line, priority_cell, pattern_mode, pattern_cell, pattern_line, transfer_cell, transfer_line};
 
 use crate::cells::{bit_cell, byte_cell, label, number_cell, yes_cell};
+use basics::Place;
 use phrases::word;
-use rules::{Device, Pattern, Transfer};
+use rules::{Device, Transfer};
 use texts::{Text, push};
 
 // How many facts a port has, a pattern, and what a handshake holds.
@@ -31,18 +32,17 @@ const PORT_LABELS: [[u8; 16]; PORT_ROWS] = [
 ];
 
 #[tactic(auto, unfolding(crate::specs::Shown::port_cell))]
-fn port_cell(t: Text, d: Device, p: usize, row: usize) -> Text
-    requires { p < 3 }
+fn port_cell(t: Text, d: Device, p: Place<3>, row: usize) -> Text
     ensures { result ≡ typed t (port_cell d p row) }
 {
-    let q = d.ports[p];
+    let q = d.ports[p.index()];
     match row {
-        0 => yes_cell(t, levels::port_enabled(d, p)),
+        0 => yes_cell(t, levels::port_enabled(d, p.index())),
         1 => byte_cell(t, q.direction),
         2 => byte_cell(t, q.polarity),
         3 => byte_cell(t, q.special),
         4 => byte_cell(t, q.output),
-        5 => byte_cell(t, levels::pins_at(d, p)),
+        5 => byte_cell(t, levels::pins_at(d, p.index())),
         _ => byte_cell(t, q.catcher),
     }
 }
@@ -51,10 +51,11 @@ fn port_cell(t: Text, d: Device, p: usize, row: usize) -> Text
 pub(crate) fn port_line(d: Device, row: usize) -> Text
     ensures { result ≡ typed no_text (port_line d row) }
 {
-    let t = label(&PORT_LABELS, row);
-    let a = port_cell(t, d, 0, row);
-    let b = port_cell(a, d, 1, row);
-    push(port_cell(b, d, 2, row), b'\n')
+    let mut t = label(&PORT_LABELS, row);
+    for at in 0..3 {
+        t = port_cell(t, d, Place { at }, row);
+    }
+    push(t, b'\n')
 }
 
 const PATTERN_LABELS: [[u8; 16]; PATTERN_ROWS] = [
@@ -66,46 +67,39 @@ const PATTERN_LABELS: [[u8; 16]; PATTERN_ROWS] = [
 ];
 
 // The highest matching bit, if one matches.
-#[tactic(auto, unfolding(texts::specs::Spelled::spelled))]
-fn priority_cell(t: Text, matches: bool, n: u8) -> Text
-    requires { n < 8 }
-    ensures { result ≡ typed t (priority_cell matches n) }
-{
-    let digit = if matches { 0x30 + n } else { 0x2D };
-    push(word(t, b"  priority "), digit)
-}
-
-#[tactic(auto, unfolding(rules::specs::Patterns::highest_match, rules::specs::Interrupts::highest_at))]
-fn priority_mode(t: Text, d: Device, p: usize, q: Pattern) -> Text
-    requires { q ≡ pattern_at d p }
+#[tactic(auto, unfolding(texts::specs::Kept::typed, texts::specs::Spelled::spelled, crate::specs::Shown::priority_cell, rules::specs::Patterns::highest_match, rules::specs::Interrupts::highest_at))]
+fn priority_mode(t: Text, d: Device, p: Place<2>) -> Text
     ensures { result ≡ typed t (priority_cell (match_of (port_enabled d p) (pattern_at d p) (seen_at d p) (seen_at d p)) (highest_at d p)) }
 {
-    let enabled = levels::port_enabled(d, p);
-    let seen = levels::seen_at(d, p);
-    let m = step::matches(enabled, q, seen, seen);
-    priority_cell(t, m, ports::highest(enabled, q, seen))
+    let q = d.patterns[p.index()];
+    let enabled = levels::port_enabled(d, p.index());
+    let seen = levels::seen_at(d, p.index());
+    let u = word(t, b"  priority ");
+    if step::matches(enabled, q, seen, seen) {
+        return push(u, b'0' + ports::highest(enabled, q, seen));
+    }
+    push(u, b'-')
 }
 
 #[tactic(auto, unfolding(crate::specs::Shown::pattern_mode, texts::specs::Spelled::spelled))]
-fn pattern_mode(t: Text, d: Device, p: usize, q: Pattern) -> Text
-    requires { q ≡ pattern_at d p }
+fn pattern_mode(t: Text, d: Device, p: Place<2>) -> Text
     ensures { result ≡ typed t (pattern_mode d p) }
 {
-    match q.mode / 2 % 4 {
+    match d.patterns[p.index()].mode / 2 % 4 {
         1 => word(t, b"         AND"),
         2 => word(t, b"          OR"),
-        3 => priority_mode(t, d, p, q),
+        3 => priority_mode(t, d, p),
         _ => word(t, b"         off"),
     }
 }
 
 #[tactic(auto, unfolding(crate::specs::Shown::pattern_cell))]
-fn pattern_cell(t: Text, d: Device, p: usize, q: Pattern, row: usize) -> Text
-    requires { q ≡ pattern_at d p }
+fn pattern_cell(t: Text, d: Device, p: Place<2>, row: usize) -> Text
     ensures { result ≡ typed t (pattern_cell d p row) }
 {
+    let q = d.patterns[p.index()];
     match row {
-        0 => pattern_mode(t, d, p, q),
+        0 => pattern_mode(t, d, p),
         1 => byte_cell(t, q.polarity),
         2 => byte_cell(t, q.transition),
         3 => byte_cell(t, q.mask),
@@ -117,11 +111,11 @@ fn pattern_cell(t: Text, d: Device, p: usize, q: Pattern, row: usize) -> Text
 pub(crate) fn pattern_line(d: Device, row: usize) -> Text
     ensures { result ≡ typed no_text (pattern_line d row) }
 {
-    let qa = d.patterns[0];
-    let qb = d.patterns[1];
-    let t = label(&PATTERN_LABELS, row);
-    let a = pattern_cell(t, d, 0, qa, row);
-    push(pattern_cell(a, d, 1, qb, row), b'\n')
+    let mut t = label(&PATTERN_LABELS, row);
+    for at in 0..2 {
+        t = pattern_cell(t, d, Place { at }, row);
+    }
+    push(t, b'\n')
 }
 
 const TRANSFER_LABELS: [[u8; 16]; TRANSFER_ROWS] = [
@@ -149,9 +143,9 @@ fn transfer_cell(t: Text, h: Transfer, row: usize) -> Text
 pub(crate) fn transfer_line(d: Device, row: usize) -> Text
     ensures { result ≡ typed no_text (transfer_line d row) }
 {
-    let ha = d.transfers[0];
-    let hb = d.transfers[1];
-    let t = label(&TRANSFER_LABELS, row);
-    let a = transfer_cell(t, ha, row);
-    push(transfer_cell(a, hb, row), b'\n')
+    let mut t = label(&TRANSFER_LABELS, row);
+    for h in &d.transfers {
+        t = transfer_cell(t, *h, row);
+    }
+    push(t, b'\n')
 }

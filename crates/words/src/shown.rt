@@ -67,35 +67,21 @@ fn tail_line(d: Device, n: usize) -> Text
 pub fn line(d: Device, n: usize) -> Text
     ensures { result ≡ typed no_text (shown_line d n) }
 {
-    if n < PORTS {
-        return head_line(d, n);
-    }
-    if n < PATTERNS {
-        return port_line(d, n - PORTS);
-    }
-    if n < TRANSFERS {
-        return pattern_line(d, n - PATTERNS);
-    }
-    if n < COUNTER_HEAD {
-        return transfer_line(d, n - TRANSFERS);
-    }
-    if n < COUNTERS {
-        return word(
+    match n {
+        0..PORTS => head_line(d, n),
+        PORTS..PATTERNS => port_line(d, n - PORTS),
+        PATTERNS..TRANSFERS => pattern_line(d, n - PATTERNS),
+        TRANSFERS..COUNTER_HEAD => transfer_line(d, n - TRANSFERS),
+        COUNTER_HEAD => word(
             texts::no_text(),
             b"counter                  CT1         CT2         CT3\n",
-        );
-    }
-    if n < SOURCE_HEAD {
-        return counter_line(d, n - COUNTERS);
-    }
-    if n < SOURCES {
-        return word(
+        ),
+        COUNTERS..SOURCE_HEAD => counter_line(d, n - COUNTERS),
+        SOURCE_HEAD => word(
             texts::no_text(),
             b"source                   CT3           A         CT2           B         CT1\n",
-        );
+        ),
+        SOURCES..TAIL => source_line(d, n - SOURCES),
+        _ => tail_line(d, n - TAIL),
     }
-    if n < TAIL {
-        return source_line(d, n - SOURCES);
-    }
-    tail_line(d, n - TAIL)
 }

@@ -24,24 +24,16 @@ fn source_cell(t: Text, s: Source, row: usize) -> Text
     ensures { result ≡ typed t (source_cell s row) }
 {
     let flags = [s.ie, s.ip, s.ius, s.err, s.hidden];
-    if row < ROWS {
-        return bit_cell(t, flags[row]);
-    }
-    bit_cell(t, false)
+    bit_cell(t, flags.get(row).copied().unwrap_or(false))
 }
 
 #[tactic(auto, unfolding(texts::specs::Kept::typed, crate::specs::Shown::source_line, texts::specs::Spelled::spelled))]
 pub(crate) fn source_line(d: Device, row: usize) -> Text
     ensures { result ≡ typed no_text (source_line d row) }
 {
-    let s0 = d.sources[0];
-    let s1 = d.sources[1];
-    let s2 = d.sources[2];
-    let s3 = d.sources[3];
-    let s4 = d.sources[4];
-    let t0 = source_cell(label(&LABELS, row), s0, row);
-    let t1 = source_cell(t0, s1, row);
-    let t2 = source_cell(t1, s2, row);
-    let t3 = source_cell(t2, s3, row);
-    push(source_cell(t3, s4, row), b'\n')
+    let mut t = label(&LABELS, row);
+    for s in &d.sources {
+        t = source_cell(t, *s, row);
+    }
+    push(t, b'\n')
 }

@@ -1,5 +1,4 @@
 use Rattle.texts.specs.Spelled.{spelled}
-use Rattle.words.specs.Cells.{yes_cell}
 use Rattle.ctc_words.specs.Shown.{factor_cell, start_cell, channel_cell}
 use Rattle.ctc_words.proofs.cells.channel.Goals as goal
 
@@ -10,7 +9,3 @@ returns-in-1 c = simp (c.either-in-1.ensures, c.in-1.is)
 pub returns-in-3 : goal.returns-in-3
 unfolding channel_cell start_cell spelled
 returns-in-3 c = simp (c.either-in-3.ensures, c.in-3.is)
-
-pub returns-in-8 : goal.returns-in-8
-unfolding channel_cell yes_cell spelled
-returns-in-8 c = simp (c.either-in-8.ensures, c.in-8.is)

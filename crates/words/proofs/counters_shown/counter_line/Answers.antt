@@ -1,10 +1,19 @@
-use Rattle.texts.specs.Kept.{typed}
-use Rattle.words.specs.Shown.{counter_line}
+use mathlib.Core.Path.{◌≡◌}
+use native.Mathlib.Omega.{arith}
+use Rattle.std.proofs.Common.{append_assoc}
 use Rattle.texts.specs.Spelled.{spelled}
-use Rattle.texts.proofs.Typing.{typed-append}
+use Rattle.words.specs.Shown.{counter_line}
+use Rattle.words.proofs.Columns.{columns, no-columns, columns-more, columns-ended}
 use Rattle.words.proofs.counters_shown.counter_line.Goals as goal
 
+pub loop-at-init : goal.loop-at-init
+loop-at-init c = no-columns _ _
+
+pub loop-at-preserved : goal.loop-at-preserved
+loop-at-preserved c = columns-more _ _ _ _ _ c.loop-at.invariant c.counter_column-t.ensures
+
 pub returns : goal.returns
-unfolding typed counter_line spelled
+unfolding counter_line columns spelled
 returns c =
-    simp (typed-append, c.push.ensures, c.counter_column.ensures, c.counter_column-b.ensures, c.counter_column-a.ensures, c.label-t.ensures)
+    let k : c.loop-at.at ≡ 3 = omega arith in
+    columns-ended _ _ _ _ _ _ c.label-t.ensures (rw k at c.loop-at.invariant) c.push.ensures (simp append_assoc)
