@@ -2,11 +2,12 @@
 #![tactic(auto)]
 
 ghost use Rattle.std.specs.Prelude.{◌≡◌, length};
+ghost use Rattle.rules.specs.Refusals.{code_in};
 ghost use Rattle.chip_image.specs.ChipImage.{length_chip, save_code_chip, saved_chip, restored_chip};
 
 use chip::Chip;
 use image::Restored;
-use rules::Device;
+use rules::{Device, Refusal};
 use z8536::Z8536;
 
 // How long the image of a device is.
@@ -24,8 +25,8 @@ pub fn image_len(c: Chip) -> usize
 // Saves a device into the first bytes of a buffer, as many as its image has. Codes: 9, then 7, else 0. A refused save leaves the
 // buffer as it was.
 #[tactic(auto, unfolding(crate::specs::ChipImage::save_code_chip, crate::specs::ChipImage::saved_chip))]
-pub fn save(c: Chip, buf: &mut [u8]) -> u8
-    ensures { (result ≡ save_code_chip c (length buf.old)) × (buf.new ≡ saved_chip c buf.old) }
+pub fn save(c: Chip, buf: &mut [u8]) -> Result<(), Refusal>
+    ensures { (code_in result ≡ save_code_chip c (length buf.old)) × (buf.new ≡ saved_chip c buf.old) }
 {
     if c.z8536 {
         return image::save_z8536(c.device, buf);

@@ -57,7 +57,7 @@ pub fn wolfscarer_z8036_fresh(state: &mut [u8]) -> u8
     if state.len() != Device::IMAGE {
         return 7;
     }
-    image::save(Device::fresh(), state)
+    rules::code(image::save(Device::fresh(), state))
 }
 
 // An event of a Z8036, in place. Codes: the state's 7, 8, 7, 9, then 7 for an answer buffer that is too short, with neither buffer
@@ -86,7 +86,7 @@ pub fn wolfscarer_z8036_event(
     let o = event::event(s.device, e);
     let reply = o.answer;
     let bytes = answers::answer(reply);
-    image::save(o.device, state);
+    let _ = image::save(o.device, state);
     basics::lay(answer, 0, &bytes);
     reply.code
 }
@@ -113,7 +113,7 @@ pub fn wolfscarer_z8536_fresh(state: &mut [u8]) -> u8
     if state.len() != Z8536::IMAGE {
         return 7;
     }
-    image::save_z8536(Z8536::fresh(), state)
+    rules::code(image::save_z8536(Z8536::fresh(), state))
 }
 
 // An event of a Z8536.
@@ -141,7 +141,7 @@ pub fn wolfscarer_z8536_event(
     let o = event_z8536::event(s.device, e);
     let reply = o.answer;
     let bytes = answers::answer(reply);
-    image::save_z8536(o.device, state);
+    let _ = image::save_z8536(o.device, state);
     basics::lay(answer, 0, &bytes);
     reply.code
 }
@@ -169,7 +169,7 @@ pub fn wolfscarer_ctc_fresh(state: &mut [u8]) -> u8
     if state.len() != Ctc::IMAGE {
         return 7;
     }
-    ctc_image::save(Ctc::fresh(), state)
+    rules::code(ctc_image::save(Ctc::fresh(), state))
 }
 
 // An event of a CTC.
@@ -197,7 +197,7 @@ pub fn wolfscarer_ctc_event(
     let o = ctc_event::event(s.device, e);
     let reply = o.answer;
     let bytes = answers::ctc(reply);
-    ctc_image::save(o.device, state);
+    let _ = ctc_image::save(o.device, state);
     basics::lay(answer, 0, &bytes);
     reply.code
 }
@@ -214,7 +214,7 @@ pub fn wolfscarer_ctc_end_of_service(state: &mut [u8], answer: &mut [u8]) -> u8
     let ended = ctc_event::end_of_service(s.device);
     let reply = ended.answer;
     let bytes = answers::ctc(reply);
-    ctc_image::save(ended.device, state);
+    let _ = ctc_image::save(ended.device, state);
     basics::lay(answer, 0, &bytes);
     reply.code
 }

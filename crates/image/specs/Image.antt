@@ -1,7 +1,9 @@
 -- Paper 01, "The image": what save and restore answer. The layout, the bodies and what they tell are in the specs of `bodies`.
 -- Assumes nothing.
-use Rattle.std.specs.Prelude.{ℕ, ◌+◌, Bool, true, false, not, ◌&&◌, List, [], ◌∷◌, ◌++◌, ltb, length, take, drop, if◌then◌else◌, ◌==◌}
+use Rattle.std.specs.Prelude.{ℕ, ◌+◌, Result, Ok, Err, Bool, true, false, not, ◌&&◌, List, [], ◌∷◌, ◌++◌, ltb, length, take, drop, if◌then◌else◌, ◌==◌}
 use Rattle.rules.specs.declared.Device.{Device}
+use Rattle.rules.specs.declared.refusal.Refusal.{Refusal}
+use Rattle.rules.specs.Refusals.{number_of}
 use Rattle.rules.specs.Record.{fresh_of}
 use Rattle.rules.specs.Sound.{sound_of}
 use Rattle.bodies.specs.Layout.{Layout, layout_of, layout_in, contents_len, length_of, contents_of, part}
@@ -28,6 +30,11 @@ unfoldable pub saved_of : Device → List ℕ → List ℕ
 saved_of d e = if save_code d (length e) == 0 then image_of d ++ drop (length_of (layout_of d)) e else e
 
 -- ---- restore: "A refused restore gives the fresh device."
+-- what is answered where a device was read, and where its reading was refused: then with the fresh one
+unfoldable pub restored_from : {D : Type 0} → Result D Refusal → D → Restored D
+restored_from (Ok d) fresh = record { code = 0; device = d }
+restored_from (Err r) fresh = record { code = number_of r; device = fresh }
+
 abbrev pub refused : ℕ → Restored Device
 refused c = record { code = c; device = fresh_of }
 

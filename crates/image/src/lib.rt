@@ -5,11 +5,13 @@ mod contents;
 mod pointed;
 
 ghost use Rattle.std.specs.Prelude.{◌≡◌, ◌&&◌, ◌++◌, ◌+◌, ◌≤◌, length, drop};
+ghost use Rattle.rules.specs.Refusals.{code_in};
+ghost use Rattle.rules.specs.Record.{fresh_of};
 ghost use Rattle.bodies.specs.Taken.{record_in, unused_clear, states_agree};
-ghost use Rattle.image.specs.Image.{agree, fifth_len, bodies_len, laid_by, save_code, saved_of, refused, accepted_of, restored_by, restored_of};
+ghost use Rattle.image.specs.Image.{agree, fifth_len, bodies_len, laid_by, save_code, saved_of, restored_from, accepted_of, restored_by, restored_of};
 
 pub use pointed::{restore_z8536, save_z8536};
-use rules::Device;
+use rules::{Device, Refusal};
 
 // What a restore answers: its code, and the device, which is the fresh one where the code is not 0.
 // Stays: a Result has no place for the fresh device that paper 01 gives a refused restore (image/Image.restored_of).
@@ -19,21 +21,28 @@ pub struct Restored<D> {
     pub device: D,
 }
 
+impl<D: Copy> Restored<D> {
+    // What was read; or, with the number of its refusal, the device beside it.
+    #[tactic(auto, unfolding(crate::specs::Image::restored_from))]
+    pub fn of(read: Result<D, Refusal>, fresh: D) -> Restored<D>
+        ensures { result ≡ restored_from read fresh }
+    {
+        match read {
+            Ok(device) => Restored { code: 0, device },
+            Err(refusal) => Restored {
+                code: refusal.number(),
+                device: fresh,
+            },
+        }
+    }
+}
+
 // Whether two slices hold the same bytes.
+#[tactic(auto, using(crate::proofs::Agree::bytes_agree))]
 pub fn same_bytes(a: &[u8], b: &[u8]) -> bool
     ensures { result ≡ agree a.now b.now }
 {
-    if a.len() != b.len() {
-        return false;
-    }
-    let mut i = 0;
-    while i < a.len() {
-        if a[i] != b[i] {
-            return false;
-        }
-        i += 1;
-    }
-    true
+    a == b
 }
 
 // How long the fifth body of a version is: version 1 has none.
@@ -72,36 +81,26 @@ pub(crate) fn write_by(contents: &[u8], d: Device, buf: &mut [u8])
 
 // Saves a record into the first bytes of a buffer, 84 of version 1, 96 of version 2. Codes: 9 for a record that is not sound, 7
 // for a buffer that is shorter, else 0. A refused save leaves the buffer as it was.
-pub fn save(d: Device, buf: &mut [u8]) -> u8
-    ensures { (result ≡ save_code d (length buf.old)) × (buf.new ≡ saved_of d buf.old) }
+#[tactic(auto, unfolding(rules::specs::Refusals::code_in, rules::specs::Refusals::number_of))]
+pub fn save(d: Device, buf: &mut [u8]) -> Result<(), Refusal>
+    ensures { (code_in result ≡ save_code d (length buf.old)) × (buf.new ≡ saved_of d buf.old) }
 {
     if !refusals::sound(d) {
-        return 9;
+        return Err(Refusal::Unsound);
     }
     if buf.len() < Device::image_len(d.version) {
-        return 7;
+        return Err(Refusal::Length);
     }
     if d.version == 1 {
-        let old = contents::OLD;
-        write_by(&old, d, buf);
+        write_by(&contents::OLD, d, buf);
     } else {
-        let new = contents::NEW;
-        write_by(&new, d, buf);
+        write_by(&contents::NEW, d, buf);
     }
-    0
-}
-
-fn refuse(code: u8) -> Restored<Device>
-    ensures { result ≡ refused code }
-{
-    Restored {
-        code: code,
-        device: Device::fresh(),
-    }
+    Ok(())
 }
 
 // The record of five bodies, if their unused bits are 0 and it is sound.
-#[tactic(auto, unfolding(crate::specs::Image::accepted_of))]
+#[tactic(auto, unfolding(crate::specs::Image::restored_from, crate::specs::Image::accepted_of, rules::specs::Refusals::number_of))]
 fn accept(
     version: u8,
     registers: &[u8],
@@ -109,33 +108,33 @@ fn accept(
     pins: &[u8],
     lines: &[u8],
     transfers: &[u8],
-) -> Restored<Device>
-    ensures { result ≡ accepted_of
+) -> Result<Device, Refusal>
+    ensures { restored_from result fresh_of ≡ accepted_of
         (unused_clear registers.now counts.now pins.now lines.now transfers.now
         && states_agree registers.now transfers.now)
         (record_in version registers.now counts.now pins.now lines.now transfers.now) }
 {
     if !image_in::clear(registers, counts, pins, lines, transfers) {
-        return refuse(9);
+        return Err(Refusal::Unsound);
     }
     let e = image_in::device(version, registers, counts, pins, lines, transfers);
     if !refusals::sound(e) {
-        return refuse(9);
+        return Err(Refusal::Unsound);
     }
-    Restored { code: 0, device: e }
+    Ok(e)
 }
 
 // An image with these contents, of a record of a version; behind its bodies stand `more` bytes.
-#[tactic(auto, unfolding(crate::specs::Image::restored_by))]
-pub(crate) fn restore_by(version: u8, contents: &[u8], more: u8, s: &[u8]) -> Restored<Device>
-    ensures { result ≡ restored_by version contents.now more s.now }
+#[tactic(auto, unfolding(crate::specs::Image::restored_from, crate::specs::Image::restored_by, rules::specs::Refusals::number_of))]
+pub(crate) fn read_by(version: u8, contents: &[u8], more: u8, s: &[u8]) -> Result<Device, Refusal>
+    ensures { restored_from result fresh_of ≡ restored_by version contents.now more s.now }
 {
     let n = contents.len();
     if s.len() < n {
-        return refuse(7);
+        return Err(Refusal::Length);
     }
     if !same_bytes(&s[..n], contents) {
-        return refuse(8);
+        return Err(Refusal::Contents);
     }
     let counts = n + 48;
     let pins = n + 57;
@@ -143,7 +142,7 @@ pub(crate) fn restore_by(version: u8, contents: &[u8], more: u8, s: &[u8]) -> Re
     let transfers = n + 66;
     let end = transfers + fifth_len(version);
     if s.len() != end + more as usize {
-        return refuse(7);
+        return Err(Refusal::Length);
     }
     accept(
         version,
@@ -155,16 +154,21 @@ pub(crate) fn restore_by(version: u8, contents: &[u8], more: u8, s: &[u8]) -> Re
     )
 }
 
+// The record of an image of version 1 or 2.
+#[tactic(auto, unfolding(crate::specs::Image::restored_of, bodies::specs::Layout::layout_in))]
+fn read(s: &[u8]) -> Result<Device, Refusal>
+    ensures { restored_from result fresh_of ≡ restored_of s.now }
+{
+    if basics::byte_at(s, 0) == 2 {
+        return read_by(2, &contents::NEW, 0, s);
+    }
+    read_by(1, &contents::OLD, 0, s)
+}
+
 // Restores the record of an image of version 1 or 2. Codes: 7 for an image shorter than its version's contents, 8 for other contents,
 // 7 for another length, 9 for bodies that are not sound, else 0. A refused restore gives the fresh device.
-#[tactic(auto, unfolding(crate::specs::Image::restored_of, bodies::specs::Layout::layout_in))]
 pub fn restore(s: &[u8]) -> Restored<Device>
     ensures { result ≡ restored_of s.now }
 {
-    if basics::byte_at(s, 0) == 2 {
-        let new = contents::NEW;
-        return restore_by(2, &new, 0, s);
-    }
-    let old = contents::OLD;
-    restore_by(1, &old, 0, s)
+    Restored::of(read(s), Device::fresh())
 }

@@ -382,17 +382,16 @@ fn image_part(d: Chip, buf: &[u8]) -> usize
 }
 
 // Saves a device to an image file. Answers whether it is saved; where not, the file is as it was, and a line says why.
-#[tactic(auto, using(crate::proofs::Unsaved::saved_sound))]
+#[tactic(auto, unfolding(rules::specs::Refusals::code_in), using(crate::proofs::Unsaved::saved_sound))]
 pub fn keep<F: Files, W: Write>(files: &F, path: &[u8], d: Chip, report: &mut W) -> bool
     ensures { sound_chip d ≡ false → result ≡ false }
 {
     let mut image = [0u8; Z8536::IMAGE];
-    let code = chip_image::save(d, &mut image);
-    if code != 0 {
+    if let Err(refusal) = chip_image::save(d, &mut image) {
         say(
             report,
             path,
-            phrases::refusal_line(code, Z8536::IMAGE as u32, Z8536::IMAGE),
+            phrases::refusal_line(refusal.number(), Z8536::IMAGE as u32, Z8536::IMAGE),
         );
         return false;
     }
@@ -401,17 +400,16 @@ pub fn keep<F: Files, W: Write>(files: &F, path: &[u8], d: Chip, report: &mut W)
 }
 
 // Saves a CTC likewise.
-#[tactic(auto, using(crate::proofs::Unsaved::saved_sound_ctc))]
+#[tactic(auto, unfolding(rules::specs::Refusals::code_in), using(crate::proofs::Unsaved::saved_sound_ctc))]
 pub fn keep_ctc<F: Files, W: Write>(files: &F, path: &[u8], d: Ctc, report: &mut W) -> bool
     ensures { sound_ctc d ≡ false → result ≡ false }
 {
     let mut image = [0u8; Ctc::IMAGE];
-    let answer = ctc_image::save(d, &mut image);
-    if answer != 0 {
+    if let Err(refusal) = ctc_image::save(d, &mut image) {
         say(
             report,
             path,
-            phrases::refusal_line(answer, Ctc::IMAGE as u32, Ctc::IMAGE),
+            phrases::refusal_line(refusal.number(), Ctc::IMAGE as u32, Ctc::IMAGE),
         );
         return false;
     }

@@ -77,14 +77,14 @@ fn print_first<W: Write>(out: &mut W, b: &[u8], n: usize) {
 
 fn print_image<W: Write>(out: &mut W, d: Device) {
     let mut buf = [0u8; Device::IMAGE];
-    image::save(d, &mut buf);
+    let _ = image::save(d, &mut buf);
     write_all(out, b" ");
     print_first(out, &buf, Device::image_len(d.version));
 }
 
 fn print_image_z8536<W: Write>(out: &mut W, z: Z8536) {
     let mut buf = [0u8; Z8536::IMAGE];
-    image::save_z8536(z, &mut buf);
+    let _ = image::save_z8536(z, &mut buf);
     write_all(out, b" ");
     print_bytes(out, &buf);
 }

@@ -144,14 +144,15 @@ fn day<W: Write>(out: &mut W, l: Ledger) -> Ledger {
 
 // A night: the device is saved, and the one of the next morning is restored from the bytes.
 fn night<W: Write>(out: &mut W, l: Ledger) -> Ledger {
-    let d = l.device;
     let mut bytes = [0; Device::IMAGE];
-    let saved = image::save(d, &mut bytes);
+    let saved = image::save(l.device, &mut bytes);
     let morning = image::restore(&bytes);
-    say(out, b"saved    ", saved);
+    say(out, b"saved    ", rules::code(saved));
     say(out, b"restored ", morning.code);
-    let after = morning.device;
-    Ledger { device: after, ..l }
+    Ledger {
+        device: morning.device,
+        ..l
+    }
 }
 
 fn day_and_night<W: Write>(out: &mut W, l: Ledger) -> Ledger {

@@ -58,8 +58,8 @@ fn same(c: Chip, d: Chip) -> bool {
 fn same_ctc(c: Ctc, d: Ctc) -> bool {
     let mut a = [0u8; Ctc::IMAGE];
     let mut b = [0u8; Ctc::IMAGE];
-    ctc_image::save(c, &mut a);
-    ctc_image::save(d, &mut b);
+    let _ = ctc_image::save(c, &mut a);
+    let _ = ctc_image::save(d, &mut b);
     image::same_bytes(&a, &b)
 }
 

@@ -1,4 +1,5 @@
 pub mod Promise
 pub mod Refused
 pub mod OneAnswer
+pub mod Verdicts
 pub mod InPlace

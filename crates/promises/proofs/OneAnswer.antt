@@ -30,7 +30,7 @@ use Rattle.ctc_rules.specs.Sound.{sound_ctc}
 use Rattle.ctc_words.specs.Shown.{shown_ctc}
 use Rattle.event.specs.Known.{known_of}
 use Rattle.host.specs.Calls.{Called, called, fresh_code, fresh_state, host_end_ctc, host_event, host_event_ctc, host_event_z8536, host_lines, host_lines_ctc, host_lines_z8536, length_at}
-use Rattle.image.specs.Image.{agree, restored_of, save_code, saved_of}
+use Rattle.image.specs.Image.{agree, restored_from, restored_of, save_code, saved_of}
 use Rattle.image.specs.Pointed.{image_z8536, restored_z8536, save_code_z8536, saved_z8536}
 use Rattle.input.specs.Input.{unread}
 use Rattle.levels.specs.Looks.{looks_of}
@@ -73,6 +73,7 @@ use Rattle.ctc_rules.specs.declared.Ctc.{Ctc}
 use Rattle.ctc_rules.specs.declared.CtcAnswer.{CtcAnswer}
 use Rattle.rules.specs.declared.Answer.{Answer}
 use Rattle.rules.specs.declared.Device.{Device}
+use Rattle.rules.specs.declared.refusal.Refusal.{Refusal}
 use Rattle.rules.specs.declared.Lines.{Lines}
 use Rattle.rules.specs.declared.refusal.Refusal.{Refusal}
 use Rattle.std.specs.Prelude.{Result}
@@ -101,6 +102,7 @@ use Rattle.row_lines.specs.contracts.device_text as row-lines·device-text
 use Rattle.texts.specs.contracts.levels as texts·levels
 use Rattle.image.specs.contracts.save as image·save
 use Rattle.image.specs.contracts.restore as image·restore
+use Rattle.image.specs.contracts.Restored.of as image·Restored-of
 use Rattle.z8536.specs.contracts.Z8536.fresh as z8536·Z8536-fresh
 use Rattle.z8536.specs.contracts.sound as z8536·sound
 use Rattle.event_z8536.specs.contracts.event as event-z8536·event
@@ -252,6 +254,11 @@ use Rattle.texts.specs.contracts.write_answer as texts·write-answer
 use Rattle.texts.specs.contracts.no_text as texts·no-text
 use Rattle.texts.specs.contracts.push as texts·push
 use Rattle.write_access.specs.contracts.write as write-access·write
+use mir.Syntax.{Dict}
+use denote.RattleType.{RattleType}
+use Rattle.std.specs.declared.clone.Clone.{Ghosts}
+use Rattle.std.specs.Prelude.{Result}
+use Rattle.promises.proofs.Verdicts.{verdict, told}
 use Rattle.promises.proofs.Promise.{OneAnswer, one_answer, OneResult, one-result, two-clauses}
 use Rattle.promises.proofs.Refused.{told_by, told-by}
 
@@ -325,14 +332,18 @@ module _ {M : Type 1} (𝓤 : Ura M) where
   pub texts-levels : OneResult 𝓤 texts·levels.ended texts·levels.clauses
   texts-levels = one-result 𝓤 texts·levels.ended texts·levels.clauses (λ κs a. typed a.0 (levels_text a.1.0)) refl
 
-  pub image-save : OneAnswer 𝓤 image·save.ended image·save.clauses (λ κs. ℕ × List ℕ) (λ κs r x. (r, x.1.0.now))
+  pub image-save : OneAnswer 𝓤 image·save.ended image·save.clauses (λ κs. Result Unit Refusal × List ℕ) (λ κs r x. (r, x.1.0.now))
   image-save =
-      one_answer 𝓤 image·save.ended image·save.clauses (λ κs. ℕ × List ℕ) (λ κs r x. (r, x.1.0.now))
-      (λ κs a. (save_code a.0 (length a.1.0.now), saved_of a.0 a.1.0.now))
-      (λ 𝓛 at_mem run κs a g r x. fact_mono 𝓤 _ _ (λ p i. (p.0 i, p.1 i)))
+      one_answer 𝓤 image·save.ended image·save.clauses (λ κs. Result Unit Refusal × List ℕ) (λ κs r x. (r, x.1.0.now))
+      (λ κs a. (verdict (save_code a.0 (length a.1.0.now)), saved_of a.0 a.1.0.now))
+      (λ 𝓛 at_mem run κs a g r x. fact_mono 𝓤 _ _ (λ p i. (told r _ p.0 i, p.1 i)))
 
   pub image-restore : OneResult 𝓤 image·restore.ended image·restore.clauses
   image-restore = one-result 𝓤 image·restore.ended image·restore.clauses (λ κs a. restored_of a.0.now) refl
+
+  -- of any type D that is copied, by its code to copy it, t
+  pub image-Restored-of : (D : RattleType) (G : Ghosts D.Denot) (t : Dict) → OneResult 𝓤 (image·Restored-of.ended D G t) (image·Restored-of.clauses D G t)
+  image-Restored-of D G t = one-result 𝓤 (image·Restored-of.ended D G t) (image·Restored-of.clauses D G t) (λ κs a. restored_from a.0 a.1.0) refl
 
   pub z8536-Z8536-fresh : OneResult 𝓤 z8536·Z8536-fresh.ended z8536·Z8536-fresh.clauses
   z8536-Z8536-fresh = one-result 𝓤 z8536·Z8536-fresh.ended z8536·Z8536-fresh.clauses (λ κs a. fresh_z8536) refl
@@ -434,11 +445,11 @@ module _ {M : Type 1} (𝓤 : Ura M) where
       (λ κs a. ((end_of_service a.0.now).answer, (end_of_service a.0.now).device))
       (λ 𝓛 at_mem run κs a g r x. fact_mono 𝓤 _ _ (λ p i. (p.0 i, p.1 i)))
 
-  pub ctc-image-save : OneAnswer 𝓤 ctc-image·save.ended ctc-image·save.clauses (λ κs. ℕ × List ℕ) (λ κs r x. (r, x.1.0.now))
+  pub ctc-image-save : OneAnswer 𝓤 ctc-image·save.ended ctc-image·save.clauses (λ κs. Result Unit Refusal × List ℕ) (λ κs r x. (r, x.1.0.now))
   ctc-image-save =
-      one_answer 𝓤 ctc-image·save.ended ctc-image·save.clauses (λ κs. ℕ × List ℕ) (λ κs r x. (r, x.1.0.now))
-      (λ κs a. (save_code_ctc a.0 (length a.1.0.now), saved_ctc a.0 a.1.0.now))
-      (λ 𝓛 at_mem run κs a g r x. fact_mono 𝓤 _ _ (λ p i. (p.0 i, p.1 i)))
+      one_answer 𝓤 ctc-image·save.ended ctc-image·save.clauses (λ κs. Result Unit Refusal × List ℕ) (λ κs r x. (r, x.1.0.now))
+      (λ κs a. (verdict (save_code_ctc a.0 (length a.1.0.now)), saved_ctc a.0 a.1.0.now))
+      (λ 𝓛 at_mem run κs a g r x. fact_mono 𝓤 _ _ (λ p i. (told r _ p.0 i, p.1 i)))
 
   pub ctc-image-restore : OneResult 𝓤 ctc-image·restore.ended ctc-image·restore.clauses
   ctc-image-restore = one-result 𝓤 ctc-image·restore.ended ctc-image·restore.clauses (λ κs a. restored_ctc a.0.now) refl
@@ -452,11 +463,11 @@ module _ {M : Type 1} (𝓤 : Ura M) where
   pub ctc-words-line : OneResult 𝓤 ctc-words·line.ended ctc-words·line.clauses
   ctc-words-line = one-result 𝓤 ctc-words·line.ended ctc-words·line.clauses (λ κs a. typed no_text (shown_ctc a.0 a.1.0)) refl
 
-  pub image-save-z8536 : OneAnswer 𝓤 image·save-z8536.ended image·save-z8536.clauses (λ κs. ℕ × List ℕ) (λ κs r x. (r, x.1.0.now))
+  pub image-save-z8536 : OneAnswer 𝓤 image·save-z8536.ended image·save-z8536.clauses (λ κs. Result Unit Refusal × List ℕ) (λ κs r x. (r, x.1.0.now))
   image-save-z8536 =
-      one_answer 𝓤 image·save-z8536.ended image·save-z8536.clauses (λ κs. ℕ × List ℕ) (λ κs r x. (r, x.1.0.now))
-      (λ κs a. (save_code_z8536 a.0 (length a.1.0.now), saved_z8536 a.0 a.1.0.now))
-      (λ 𝓛 at_mem run κs a g r x. fact_mono 𝓤 _ _ (λ p i. (p.0 i, p.1 i)))
+      one_answer 𝓤 image·save-z8536.ended image·save-z8536.clauses (λ κs. Result Unit Refusal × List ℕ) (λ κs r x. (r, x.1.0.now))
+      (λ κs a. (verdict (save_code_z8536 a.0 (length a.1.0.now)), saved_z8536 a.0 a.1.0.now))
+      (λ 𝓛 at_mem run κs a g r x. fact_mono 𝓤 _ _ (λ p i. (told r _ p.0 i, p.1 i)))
 
   pub image-restore-z8536 : OneResult 𝓤 image·restore-z8536.ended image·restore-z8536.clauses
   image-restore-z8536 = one-result 𝓤 image·restore-z8536.ended image·restore-z8536.clauses (λ κs a. restored_z8536 a.0.now) refl
@@ -482,11 +493,11 @@ module _ {M : Type 1} (𝓤 : Ura M) where
   pub chip-image-image-len : OneResult 𝓤 chip-image·image-len.ended chip-image·image-len.clauses
   chip-image-image-len = one-result 𝓤 chip-image·image-len.ended chip-image·image-len.clauses (λ κs a. length_chip a.0) refl
 
-  pub chip-image-save : OneAnswer 𝓤 chip-image·save.ended chip-image·save.clauses (λ κs. ℕ × List ℕ) (λ κs r x. (r, x.1.0.now))
+  pub chip-image-save : OneAnswer 𝓤 chip-image·save.ended chip-image·save.clauses (λ κs. Result Unit Refusal × List ℕ) (λ κs r x. (r, x.1.0.now))
   chip-image-save =
-      one_answer 𝓤 chip-image·save.ended chip-image·save.clauses (λ κs. ℕ × List ℕ) (λ κs r x. (r, x.1.0.now))
-      (λ κs a. (save_code_chip a.0 (length a.1.0.now), saved_chip a.0 a.1.0.now))
-      (λ 𝓛 at_mem run κs a g r x. fact_mono 𝓤 _ _ (λ p i. (p.0 i, p.1 i)))
+      one_answer 𝓤 chip-image·save.ended chip-image·save.clauses (λ κs. Result Unit Refusal × List ℕ) (λ κs r x. (r, x.1.0.now))
+      (λ κs a. (verdict (save_code_chip a.0 (length a.1.0.now)), saved_chip a.0 a.1.0.now))
+      (λ 𝓛 at_mem run κs a g r x. fact_mono 𝓤 _ _ (λ p i. (told r _ p.0 i, p.1 i)))
 
   pub chip-image-restore : OneResult 𝓤 chip-image·restore.ended chip-image·restore.clauses
   chip-image-restore = one-result 𝓤 chip-image·restore.ended chip-image·restore.clauses (λ κs a. restored_chip a.0.now) refl

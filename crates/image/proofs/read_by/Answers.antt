@@ -4,7 +4,7 @@ use mathlib.Core.Path.{◌≡◌, sym, ◌∙◌}
 use borrow.Author.Tests.{eq-eqb, le-ltb, not-false}
 use native.Mathlib.Omega.{arith}
 use Rattle.image.specs.Image.{restored_by}
-use Rattle.image.proofs.restore_by.Goals as goal
+use Rattle.image.proofs.read_by.Goals as goal
 
 width-1 : (n : ℕ) → (n + 48) - n ≡ 48
 width-1 n = omega arith
