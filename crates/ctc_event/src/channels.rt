@@ -1,7 +1,6 @@
 // One channel: its count, an edge, n clocks by division, and the words that are written to it.
 ghost use Rattle.std.specs.Prelude.{◌≡◌, ◌<◌, ◌≤◌, true};
 ghost use Rattle.basics.specs.Iterate.{iterate};
-ghost use Rattle.rules.specs.Counters.{less_one};
 ghost use Rattle.theorems.specs.Free.{full_of};
 ghost use Rattle.ctc_rules.specs.Record.{counter_mode, factor_of};
 ghost use Rattle.ctc_rules.specs.Channels.{count_channel, timer_runs, started_of, edge_channel, active_edge, level_channel, stored_word, soft_reset, goes_on, control_word, stored_constant, constant_word};
@@ -17,29 +16,23 @@ fn counter_mode(c: Channel) -> bool
 }
 
 // ---- counting
-fn less_one(n: u8) -> u8
-    ensures { result ≡ less_one 256 n }
-{
-    std::num::wrapping_sub_u8(n, 1)
-}
-
 #[tactic(auto, unfolding(ctc_rules::specs::Channels::count_channel))]
 fn count(c: Channel) -> Zeroed
     ensures { result ≡ count_channel c }
 {
-    let n = less_one(c.count);
-    let mut e = c;
+    let n = c.count.wrapping_sub(1);
     if n == 0 {
-        e.count = c.constant;
-        e.ip = c.ip | (c.control / 128 % 2 == 1);
         return Zeroed {
-            channel: e,
+            channel: Channel {
+                count: c.constant,
+                ip: c.ip | (c.control / 128 % 2 == 1),
+                ..c
+            },
             zero: true,
         };
     }
-    e.count = n;
     Zeroed {
-        channel: e,
+        channel: Channel { count: n, ..c },
         zero: false,
     }
 }
@@ -48,10 +41,11 @@ fn count(c: Channel) -> Zeroed
 fn start(c: Channel) -> Channel
     ensures { result ≡ started_of c }
 {
-    let mut e = c;
-    e.running = true;
-    e.prescaler = 0;
-    e
+    Channel {
+        running: true,
+        prescaler: 0,
+        ..c
+    }
 }
 
 #[tactic(auto, unfolding(ctc_rules::specs::Channels::edge_channel))]
@@ -62,8 +56,7 @@ fn edge(c: Channel) -> Channel
         return c;
     }
     if counter_mode(c) {
-        let z = count(c);
-        return z.channel;
+        return count(c).channel;
     }
     if c.running {
         return c;
@@ -96,38 +89,43 @@ pub(crate) fn level(c: Channel, before: bool, after: bool) -> Channel
 fn store(c: Channel, b: u8) -> Channel
     ensures { result ≡ stored_word c b }
 {
-    let mut e = c;
-    e.control = b / 8 * 8;
-    e.awaits = b / 4 % 2 == 1;
-    e
+    Channel {
+        control: b / 8 * 8,
+        awaits: b / 4 % 2 == 1,
+        ..c
+    }
 }
 
 fn soft_reset(c: Channel) -> Channel
     ensures { result ≡ soft_reset c }
 {
-    let mut e = c;
-    e.constant = 0;
-    e.loaded = false;
-    e.running = false;
-    e.prescaler = 0;
-    e
+    Channel {
+        constant: 0,
+        loaded: false,
+        running: false,
+        prescaler: 0,
+        ..c
+    }
 }
 
 #[tactic(auto, unfolding(ctc_rules::specs::Channels::goes_on))]
 fn go_on(c: Channel) -> Channel
     ensures { result ≡ goes_on c }
 {
-    let mut e = c;
     if counter_mode(c) {
-        e.running = c.loaded;
-        e.prescaler = 0;
-        return e;
+        return Channel {
+            running: c.loaded,
+            prescaler: 0,
+            ..c
+        };
     }
     if c.control / 32 % 2 == 1 {
         return c;
     }
-    e.prescaler = c.prescaler % 16;
-    e
+    Channel {
+        prescaler: c.prescaler % 16,
+        ..c
+    }
 }
 
 #[tactic(auto, unfolding(ctc_rules::specs::Channels::control_word))]
@@ -148,22 +146,23 @@ pub(crate) fn control(c: Channel, b: u8) -> Channel
 fn keep_constant(c: Channel, b: u8) -> Channel
     ensures { result ≡ stored_constant c b }
 {
-    let mut e = c;
-    e.constant = b;
-    e.loaded = true;
-    e.awaits = false;
-    e
+    Channel {
+        constant: b,
+        loaded: true,
+        awaits: false,
+        ..c
+    }
 }
 
 #[tactic(auto, unfolding(ctc_rules::specs::Channels::constant_word))]
 pub(crate) fn constant(c: Channel, b: u8) -> Channel
     ensures { result ≡ constant_word c b }
 {
-    let mut e = keep_constant(c, b);
+    let kept = keep_constant(c, b);
     if c.running {
-        return e;
+        return kept;
     }
-    e.count = b;
+    let e = Channel { count: b, ..kept };
     if counter_mode(c) | !(c.control / 8 % 2 == 1) {
         return start(e);
     }
@@ -233,14 +232,15 @@ fn timer(c: Channel, n: u32) -> ChannelRan
     let f = factor(c);
     let m = (c.prescaler as u64) + (n as u64);
     let k = (m / f) as u32;
-    let z = zeros(c, k);
-    let mut e = c;
-    e.prescaler = (m % f) as u8;
-    e.count = down(c, k);
-    e.ip = c.ip | ((c.control / 128 % 2 == 1) & (z != 0));
+    let zeros = zeros(c, k);
     ChannelRan {
-        channel: e,
-        zeros: z,
+        channel: Channel {
+            prescaler: (m % f) as u8,
+            count: down(c, k),
+            ip: c.ip | ((c.control / 128 % 2 == 1) & (zeros != 0)),
+            ..c
+        },
+        zeros,
     }
 }
 

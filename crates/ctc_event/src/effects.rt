@@ -13,12 +13,12 @@ use ctc_rules::{Channel, Ctc, CtcEffect, CtcRan};
 use rules::Event;
 
 // With no zero counts.
-pub(crate) fn plain(d: Ctc, v: u8) -> CtcEffect
-    ensures { result ≡ plain_ctc d v }
+pub(crate) fn plain(device: Ctc, value: u8) -> CtcEffect
+    ensures { result ≡ plain_ctc device value }
 {
     CtcEffect {
-        device: d,
-        value: v,
+        device,
+        value,
         zeros: [0; 4],
     }
 }
@@ -27,10 +27,11 @@ pub(crate) fn plain(d: Ctc, v: u8) -> CtcEffect
 fn reset(d: Ctc) -> Ctc
     ensures { result ≡ reset_ctc d }
 {
-    let mut e = Ctc::fresh();
-    e.levels = d.levels;
-    e.iei = d.iei;
-    e
+    Ctc {
+        levels: d.levels,
+        iei: d.iei,
+        ..Ctc::fresh()
+    }
 }
 
 #[tactic(auto, unfolding(ctc_rules::specs::Events::written_ctc))]
@@ -38,7 +39,7 @@ fn write(d: Ctc, i: usize, b: u8) -> Ctc
     requires { i < 4 }
     ensures { result ≡ written_ctc d i b }
 {
-    let c = serving::channel_at(d, i);
+    let c = d.channels[i];
     let mut e = d;
     if c.awaits {
         e.channels[i] = channels::constant(c, b);
@@ -59,11 +60,7 @@ fn level_at(d: Ctc, i: usize, a: u8) -> Channel
     requires { i < 4 }
     ensures { result ≡ level_channel (channel_at d i) (bit d.levels i) (bit a i) }
 {
-    channels::level(
-        serving::channel_at(d, i),
-        (d.levels >> i) % 2 == 1,
-        (a >> i) % 2 == 1,
-    )
+    channels::level(d.channels[i], (d.levels >> i) % 2 == 1, (a >> i) % 2 == 1)
 }
 
 #[tactic(auto, unfolding(ctc_rules::specs::Events::levels_ctc))]
@@ -91,13 +88,9 @@ fn run(n: u32, d: Ctc) -> CtcRan
     let s1 = channels::clocks(d.channels[1], n);
     let s2 = channels::clocks(d.channels[2], n);
     let s3 = channels::clocks(d.channels[3], n);
-    let c0 = s0.channel;
-    let c1 = s1.channel;
-    let c2 = s2.channel;
-    let c3 = s3.channel;
     CtcRan {
         device: Ctc {
-            channels: [c0, c1, c2, c3],
+            channels: [s0.channel, s1.channel, s2.channel, s3.channel],
             ..d
         },
         zeros: [s0.zeros, s1.zeros, s2.zeros, s3.zeros],
@@ -110,21 +103,18 @@ fn clocks(d: Ctc, n: u32) -> CtcEffect
     ensures { result ≡ clocks_ctc d n }
 {
     let s = run(n, d);
-    let after = s.device;
     let zeros = s.zeros;
     CtcEffect {
-        device: after,
+        device: s.device,
         value: 0,
-        zeros: zeros,
+        zeros,
     }
 }
 
 fn with_iei(d: Ctc, v: u32) -> CtcEffect
     ensures { result ≡ plain_ctc (set_iei d (v == 1)) 0 }
 {
-    let mut e = d;
-    e.iei = v == 1;
-    plain(e, 0)
+    plain(Ctc { iei: v == 1, ..d }, 0)
 }
 
 // What an accepted event does.
@@ -133,14 +123,13 @@ pub(crate) fn effect_of(d: Ctc, e: Event) -> CtcEffect
     requires { code_ctc d e ≡ 0 }
     ensures { result ≡ effect_ctc d e }
 {
-    let k = e.kind;
-    match k {
-        0 => plain(reset(d), 0),
-        1 => plain(write(d, e.a as usize, e.b as u8), 0),
-        2 => plain(d, serving::channel_at(d, e.a as usize).count),
-        3 => plain(levels(d, e.a as u8), 0),
-        4 => clocks(d, e.a),
-        5 => plain(serving::acknowledged(d), serving::vector(d)),
+    match e.kind {
+        Event::X => plain(reset(d), 0),
+        Event::W => plain(write(d, e.a as usize, e.b as u8), 0),
+        Event::R => plain(d, d.channels[e.a as usize].count),
+        Event::P => plain(levels(d, e.a as u8), 0),
+        Event::T => clocks(d, e.a),
+        Event::K => plain(serving::acknowledged(d), serving::vector(d)),
         _ => with_iei(d, e.a),
     }
 }

@@ -6,11 +6,12 @@ mod effects;
 mod serving;
 
 ghost use Rattle.std.specs.Prelude.{◌≡◌};
+ghost use Rattle.rules.specs.Refusals.{code_in};
 ghost use Rattle.ctc_rules.specs.Interrupts.{lines_ctc};
 ghost use Rattle.ctc_rules.specs.Events.{no_channel, too_large_ctc, code_ctc, outcome_ctc, unsound_ctc, event_ctc, end_of_service};
 
 use ctc_rules::{Ctc, CtcAnswer, CtcEffect};
-use rules::{Event, Lines, Outcome};
+use rules::{Event, Lines, Outcome, Refusal};
 
 #[tactic(auto, unfolding(ctc_rules::specs::Events::no_channel))]
 fn has_no_channel(e: Event) -> bool
@@ -28,42 +29,39 @@ fn is_too_large(e: Event) -> bool
         | ((e.kind == Event::E) & (1 < e.a))
 }
 
-// The code of an event, in the order of the refusals.
-#[tactic(auto, unfolding(ctc_rules::specs::Events::code_ctc, rules::specs::Events::unknown))]
-fn code_of(d: Ctc, e: Event) -> u8
-    ensures { result ≡ code_ctc d e }
+// Why an event is refused, in the order of the refusals.
+#[tactic(auto, unfolding(ctc_rules::specs::Events::code_ctc, rules::specs::Events::unknown, rules::specs::Refusals::number_of, rules::specs::Refusals::code_in))]
+fn refused(d: Ctc, e: Event) -> Result<(), Refusal>
+    ensures { code_in result ≡ code_ctc d e }
 {
     if !ctc_rules::sound(d) {
-        return 9;
+        return Err(Refusal::Unsound);
     }
     if 6 < e.kind {
-        return 1;
+        return Err(Refusal::Unknown);
     }
     if has_no_channel(e) {
-        return 2;
+        return Err(Refusal::NoRegister);
     }
     if is_too_large(e) {
-        return 5;
+        return Err(Refusal::TooLarge);
     }
-    if (e.kind == Event::K) & (serving::requester(d) == serving::NONE) {
-        return 6;
+    if (e.kind == Event::K) & serving::requester(d).is_none() {
+        return Err(Refusal::NoRequester);
     }
-    0
+    Ok(())
 }
 
 // The answer to a record that is not sound.
-fn unsound(d: Ctc) -> Outcome<Ctc, CtcAnswer>
-    ensures { result ≡ unsound_ctc d }
+#[tactic(auto, unfolding(rules::specs::Refusals::number_of))]
+fn unsound(device: Ctc) -> Outcome<Ctc, CtcAnswer>
+    ensures { result ≡ unsound_ctc device }
 {
     Outcome {
-        device: d,
+        device,
         answer: CtcAnswer {
-            code: 9,
-            value: 0,
-            levels: 0,
-            int: false,
-            ieo: false,
-            zeros: [0; 4],
+            code: Refusal::Unsound.number(),
+            ..CtcAnswer::default()
         },
     }
 }
@@ -78,29 +76,26 @@ fn outcome(code: u8, f: CtcEffect) -> Outcome<Ctc, CtcAnswer>
     Outcome {
         device: d,
         answer: CtcAnswer {
-            code: code,
+            code,
             value: f.value,
             levels: d.levels,
-            int: serving::requester(d) != serving::NONE,
+            int: serving::requester(d).is_some(),
             ieo: serving::ieo(d),
-            zeros: zeros,
+            zeros,
         },
     }
 }
 
 // Any record and any event, to an answer beside the record.
-#[tactic(auto, unfolding(ctc_rules::specs::Events::event_ctc))]
+#[tactic(auto, unfolding(ctc_rules::specs::Events::event_ctc, rules::specs::Refusals::number_of, rules::specs::Refusals::code_in))]
 pub fn event(d: Ctc, e: Event) -> Outcome<Ctc, CtcAnswer>
     ensures { result ≡ event_ctc d e }
 {
-    let code = code_of(d, e);
-    if code == 9 {
-        return unsound(d);
+    match refused(d, e) {
+        Ok(()) => outcome(0, effects::effect_of(d, e)),
+        Err(Refusal::Unsound) => unsound(d),
+        Err(refusal) => outcome(refusal.number(), effects::plain(d, 0)),
     }
-    if code == 0 {
-        return outcome(0, effects::effect_of(d, e));
-    }
-    outcome(code, effects::plain(d, 0))
 }
 
 // The end of service of the highest channel in service, if there is one.
@@ -120,7 +115,7 @@ pub fn lines(d: Ctc) -> Lines
     ensures { result ≡ lines_ctc d }
 {
     Lines {
-        int: serving::requester(d) != serving::NONE,
+        int: serving::requester(d).is_some(),
         ieo: serving::ieo(d),
         place: serving::place(d),
     }

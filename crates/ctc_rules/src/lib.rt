@@ -3,12 +3,12 @@
 #![tactic(auto)]
 
 ghost use Rattle.std.specs.Prelude.{◌≡◌};
-ghost use Rattle.ctc_rules.specs.Record.{blank_channel, fresh_ctc};
+ghost use Rattle.ctc_rules.specs.Record.{fresh_ctc};
 ghost use Rattle.ctc_rules.specs.Sound.{sound_channel, sound_ctc};
 
 // One of the four channels. `control` keeps D7-D3 of its control word; `loaded` says that it has a constant, `awaits` that the next word
-// written to it is one.
-#[derive(Clone, Copy)]
+// written to it is one. The default is as a reset leaves it.
+#[derive(Clone, Copy, Default, PartialEq, Eq)]
 pub struct Channel {
     pub control: u8,
     pub constant: u8,
@@ -21,27 +21,8 @@ pub struct Channel {
     pub ius: bool,
 }
 
-impl Channel {
-    // As a reset leaves it.
-    fn blank() -> Self
-        ensures { result ≡ blank_channel }
-    {
-        Channel {
-            control: 0,
-            constant: 0,
-            count: 0,
-            prescaler: 0,
-            loaded: false,
-            awaits: false,
-            running: false,
-            ip: false,
-            ius: false,
-        }
-    }
-}
-
 // The device. `channels` stand in their order of priority; `vector` keeps D7-D3; `levels` are those of the trigger inputs, Di of channel i.
-#[derive(Clone, Copy)]
+#[derive(Clone, Copy, PartialEq, Eq)]
 pub struct Ctc {
     pub channels: [Channel; 4],
     pub vector: u8,
@@ -57,9 +38,8 @@ impl Ctc {
     pub fn fresh() -> Self
         ensures { result ≡ fresh_ctc }
     {
-        let c = Channel::blank();
         Ctc {
-            channels: [c, c, c, c],
+            channels: [Channel::default(); 4],
             vector: 0,
             levels: 0,
             iei: true,
@@ -97,7 +77,7 @@ pub struct CtcEffect {
 }
 
 // The answer to an event, and to the end of service.
-#[derive(Clone, Copy)]
+#[derive(Clone, Copy, Default, PartialEq, Eq)]
 pub struct CtcAnswer {
     pub code: u8,
     pub value: u8,
@@ -125,10 +105,5 @@ fn sound_channel(c: Channel) -> bool
 pub fn sound(d: Ctc) -> bool
     ensures { result ≡ sound_ctc d }
 {
-    sound_channel(d.channels[0])
-        & sound_channel(d.channels[1])
-        & sound_channel(d.channels[2])
-        & sound_channel(d.channels[3])
-        & (d.vector % 8 == 0)
-        & (d.levels < 16)
+    d.channels.iter().all(|c| sound_channel(*c)) & (d.vector % 8 == 0) & (d.levels < 16)
 }

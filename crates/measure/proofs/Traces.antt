@@ -1,6 +1,6 @@
 -- W-201, what the table of any trace says: from any record on, through any events (of which there are fewer than 2^64).
 -- Assumes nothing.
-use Rattle.std.proofs.Common.{◌≡◌, ℕ, suc, ◌+◌, ◌-◌, ◌*◌, ◌^◌, ◌<◌, ◌≤◌, true, List, [], ◌∷◌, length, sym, subst, add-zero, arith}
+use Rattle.std.proofs.Common.{◌≡◌, ℕ, suc, ◌+◌, ◌-◌, ◌*◌, ◌^◌, ◌<◌, ◌≤◌, true, Some, IsSome, IfSome, List, [], ◌∷◌, length, sym, subst, add-zero, arith}
 use Rattle.basics.specs.Runs.{record_through}
 use Rattle.rules.specs.declared.Device.{Device}
 use Rattle.rules.specs.declared.Event.{Event}
@@ -65,15 +65,15 @@ module _ (d : Device) (es : List Event) (f : suc (length es) < 2 ^ 64) where
     four-zeros = (kept.waits k).zeros
 
     -- a wait runs only while IP stands
-    pub runs-with-ip : wait.waiting ≡ true → (source_at (after measure_start d es).1 k).ip ≡ true
+    pub runs-with-ip : IsSome wait.since → (source_at (after measure_start d es).1 k).ip ≡ true
     runs-with-ip = (kept.waits k).stands
 
     -- no number wraps: the next K's sums in 64 bits are the sums, and its wait did not start later
     pub count_fits : sum64 wait.acknowledged 1 ≡ wait.acknowledged + 1
     count_fits = count-exact (length es) measure.clocks _ wait clocks-within f (kept.waits k)
 
-    pub sum_fits : wait.waiting ≡ true → sum64 wait.sum (measure.clocks - wait.since) ≡ wait.sum + (measure.clocks - wait.since)
+    pub sum_fits : (from : ℕ) → wait.since ≡ Some from → sum64 wait.sum (measure.clocks - from) ≡ wait.sum + (measure.clocks - from)
     sum_fits = sum-exact (length es) measure.clocks _ wait clocks-within f (kept.waits k)
 
-    pub since-within : wait.since ≤ measure.clocks
+    pub since-within : IfSome wait.since (λ from. from ≤ measure.clocks)
     since-within = (kept.waits k).since

@@ -1,18 +1,19 @@
 -- What holds of one source's waits: a step or clock keeps it, and so does a K.
 -- Assumes nothing.
-use Rattle.std.proofs.Common.{◌≡◌, ℕ, suc, ◌+◌, ◌-◌, ◌*◌, ◌^◌, ◌<◌, ◌≤◌, Bool, true, false, cond, eqb, ltb, refl, ap, ◌∙◌, le_trans, add-le-add, mod-eq_of_lt, add-mul, mul-le-mul_left, one-mul, zero-mul, arith, ltb-false, ltb-true, eqb-true}
+use Rattle.std.proofs.Common.{◌≡◌, ℕ, suc, ◌+◌, ◌-◌, ◌*◌, ◌^◌, ◌<◌, ◌≤◌, Bool, true, false, Option, Some, None, IfSome, cond, eqb, ltb, refl, ap, ◌∙◌, le_trans, add-le-add, mod-eq_of_lt, add-mul, mul-le-mul_left, one-mul, zero-mul, arith, ltb-false, ltb-true, eqb-true}
+use Rattle.std.proofs.lemmas.Option.{IfSome_then}
 use mathlib.Core.Bool.{false≢true}
 use Rattle.basics.proofs.Tests.{by-test}
 use Rattle.measure.specs.declared.Wait.{Wait}
 use Rattle.measure.specs.Wait.{none, begun, dropped, moved, sum64, least_with, greatest_with, added, counted}
 use Rattle.measure.specs.Measure.{most_clocks}
-use Rattle.measure.specs.Kept.{Fair}
+use Rattle.measure.specs.Kept.{lasted_since, Fair}
 
 pub none-fair : (events now : ℕ) (ip : Bool) → Fair events now ip none
 none-fair events now ip =
     record {
       stands = λ p. absurd (false≢true p);
-      since = omega arith;
+      since = tt;
       apart = omega arith;
       order = omega arith;
       low = omega arith;
@@ -22,16 +23,17 @@ none-fair events now ip =
     }
 
 -- ---- a step or clock, at whose end the trace has `later` clocks
-lasts_on : (v : Bool) (sum since now later : ℕ) → since ≤ now → now ≤ later → sum + cond v (now - since) 0 ≤ now → sum + cond v (later - since) 0 ≤ later
-lasts_on true sum since now later s l h = omega arith
-lasts_on false sum since now later s l h = omega arith
+lasts_on : (o : Option ℕ) (sum now later : ℕ) → IfSome o (λ from. from ≤ now) → now ≤ later → sum + lasted_since o now ≤ now
+    → sum + lasted_since o later ≤ later
+lasts_on (Some from) sum now later s l h = omega arith
+lasts_on None sum now later s l h = omega arith
 
 module _ (events now later : ℕ) (was : Bool) (w : Wait) (l : now ≤ later) (h : Fair events now was w) where
   dropped-fair : (ip : Bool) → Fair events later ip (dropped w)
   dropped-fair ip =
       record {
         stands = λ p. absurd (false≢true p);
-        since = omega arith;
+        since = tt;
         apart = omega (arith, h.apart);
         order = h.order;
         low = h.low;
@@ -57,8 +59,8 @@ module _ (events now later : ℕ) (was : Bool) (w : Wait) (l : now ≤ later) (h
   runs-fair =
       record {
         stands = λ _. refl;
-        since = omega (arith, h.since);
-        apart = lasts_on w.waiting w.sum w.since now later h.since l h.apart;
+        since = IfSome_then w.since h.since (λ from p. omega arith);
+        apart = lasts_on w.since w.sum now later h.since l h.apart;
         order = h.order;
         low = h.low;
         high = h.high;
@@ -127,20 +129,20 @@ module _ (events now : ℕ) (ip : Bool) (w : Wait) (c : now ≤ most_clocks) (e 
   pub count-exact : sum64 w.acknowledged 1 ≡ w.acknowledged + 1
   count-exact = exact w.acknowledged 1 (omega (arith, h.few))
 
-  module _ (r : w.waiting ≡ true) where
-    within : w.sum + (now - w.since) ≤ now
+  module _ (from : ℕ) (r : w.since ≡ Some from) where
+    within : w.sum + (now - from) ≤ now
     within = simp r at h.apart
 
-    pub sum-exact : sum64 w.sum (now - w.since) ≡ w.sum + (now - w.since)
-    sum-exact = exact w.sum (now - w.since) (omega (arith, within))
+    pub sum-exact : sum64 w.sum (now - from) ≡ w.sum + (now - from)
+    sum-exact = exact w.sum (now - from) (omega (arith, within))
 
-    added-fair : Fair (suc events) now ip (added (now - w.since) w)
+    added-fair : Fair (suc events) now ip (added (now - from) w)
     added-fair =
-        let n = now - w.since in
+        let n = now - from in
         let a = w.acknowledged in
         record {
           stands = λ p. absurd (false≢true p);
-          since = omega arith;
+          since = tt;
           apart = rw sum-exact (omega (arith, within));
           order = le_trans (least-le n w) (greatest-ge n w);
           low = rw (count-exact, sum-exact, one_more a (least_with n w)) (add-le-add (le_trans (least-low n w) h.low) (least-le n w));
@@ -149,10 +151,10 @@ module _ (events now : ℕ) (ip : Bool) (w : Wait) (c : now ≤ most_clocks) (e 
           zeros = λ z. absurd (omega (arith, count-exact, z));
         }
 
-  counted-by : (v : Bool) → w.waiting ≡ v → Fair (suc events) now ip (counted now w)
+  counted-by : (o : Option ℕ) → w.since ≡ o → Fair (suc events) now ip (counted now w)
   unfolding counted
-  counted-by false r = simp r (more-fair events now ip w h)
-  counted-by true r = simp r (added-fair r)
+  counted-by None r = simp r (more-fair events now ip w h)
+  counted-by (Some from) r = simp r (added-fair from r)
 
   pub counted-fair : Fair (suc events) now ip (counted now w)
   counted-fair = counted-by _ refl

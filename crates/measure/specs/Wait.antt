@@ -1,18 +1,17 @@
 -- W-201, "How long an interrupt waits": one source.
 -- Assumes nothing.
-use Rattle.std.specs.Prelude.{ℕ, ◌+◌, ◌-◌, ◌%◌, ◌^◌, Bool, true, false, not, ◌&&◌, ◌||◌, nat_lt, if◌then◌else◌, ◌==◌}
+use Rattle.std.specs.Prelude.{ℕ, ◌+◌, ◌-◌, ◌%◌, ◌^◌, Bool, not, ◌&&◌, ◌||◌, Option, Some, None, nat_lt, if◌then◌else◌, ◌==◌}
 use Rattle.measure.specs.declared.Wait.{Wait}
 
 -- a source with none: no wait, "four zeros"
 abbrev pub none : Wait
-none = record { waiting = false; since = 0; acknowledged = 0; least = 0; greatest = 0; sum = 0 }
+none = record { since = None; acknowledged = 0; least = 0; greatest = 0; sum = 0 }
 
 -- a wait that starts where the trace has `now` clocks; one that ran is dropped
 abbrev pub begun : ℕ → Wait → Wait
 begun now w =
     record {
-      waiting = true;
-      since = now;
+      since = Some now;
       acknowledged = w.acknowledged;
       least = w.least;
       greatest = w.greatest;
@@ -23,8 +22,7 @@ begun now w =
 abbrev pub dropped : Wait → Wait
 dropped w =
     record {
-      waiting = false;
-      since = 0;
+      since = None;
       acknowledged = w.acknowledged;
       least = w.least;
       greatest = w.greatest;
@@ -54,8 +52,7 @@ greatest_with n w = if nat_lt w.greatest n then n else w.greatest
 abbrev pub added : ℕ → Wait → Wait
 added n w =
     record {
-      waiting = false;
-      since = 0;
+      since = None;
       acknowledged = sum64 w.acknowledged 1;
       least = least_with n w;
       greatest = greatest_with n w;
@@ -63,5 +60,9 @@ added n w =
     }
 
 -- "to the first K after it that set that source's IUS; a later K for the same IP isn't counted"
+abbrev pub counted_since : Option ℕ → ℕ → Wait → Wait
+counted_since (Some from) now w = added (now - from) w
+counted_since None now w = w
+
 unfoldable pub counted : ℕ → Wait → Wait
-counted now w = if w.waiting then added (now - w.since) w else w
+counted now w = counted_since w.since now w

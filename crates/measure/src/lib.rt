@@ -9,14 +9,13 @@ ghost use Rattle.std.specs.Prelude.{◌≡◌, true, false};
 ghost use Rattle.rules.specs.Events.{code_of, event_of};
 ghost use Rattle.measure.specs.Measure.{measure_start, past, measure_of, measured_of, row_of, table_of};
 
-use rules::{Answer, Device, Event};
+use rules::{Answer, Device, Event, Refusal};
 
-// What a source's interrupts waited: whether a wait runs and since which clock of the trace, and of the waits that were
+// What a source's interrupts waited: since which clock of the trace a wait runs, if one does, and of the waits that were
 // acknowledged how many, the least, the greatest and the sum, in PCLK clocks.
-#[derive(Clone, Copy)]
+#[derive(Clone, Copy, Default, PartialEq, Eq)]
 pub struct Wait {
-    pub waiting: bool,
-    pub since: u32,
+    pub since: Option<u32>,
     pub acknowledged: u64,
     pub least: u64,
     pub greatest: u64,
@@ -24,7 +23,7 @@ pub struct Wait {
 }
 
 // The measure of a trace so far: its clocks, and the waits of CT3, A, CT2, B, CT1.
-#[derive(Clone, Copy)]
+#[derive(Clone, Copy, PartialEq, Eq)]
 pub struct Measure {
     pub clocks: u32,
     pub waits: [Wait; 5],
@@ -46,17 +45,9 @@ impl Measure {
     pub fn start() -> Self
         ensures { result ≡ measure_start }
     {
-        let none = Wait {
-            waiting: false,
-            since: 0,
-            acknowledged: 0,
-            least: 0,
-            greatest: 0,
-            sum: 0,
-        };
         Measure {
             clocks: 0,
-            waits: [none, none, none, none, none],
+            waits: [Wait::default(); 5],
         }
     }
 }
@@ -71,13 +62,7 @@ fn row(w: Wait) -> [u64; 4]
 pub fn table(m: Measure) -> [[u64; 4]; 5]
     ensures { result ≡ table_of m }
 {
-    [
-        row(m.waits[0]),
-        row(m.waits[1]),
-        row(m.waits[2]),
-        row(m.waits[3]),
-        row(m.waits[4]),
-    ]
+    m.waits.map(row)
 }
 
 // Whether a T would take the trace's clocks past the most.
@@ -88,9 +73,10 @@ fn is_past(m: Measure, e: Event) -> bool
 }
 
 // Such a T: the lines as they stand are those of a T of no clocks.
-fn too_long(m: Measure, d: Device, e: Event) -> Measured
-    requires { past m e ≡ true }
-    ensures { result ≡ measured_of m d e }
+#[tactic(auto, unfolding(rules::specs::Refusals::number_of))]
+fn too_long(measure: Measure, device: Device, e: Event) -> Measured
+    requires { past measure e ≡ true }
+    ensures { result ≡ measured_of measure device e }
 {
     let none = Event {
         kind: Event::T,
@@ -98,20 +84,14 @@ fn too_long(m: Measure, d: Device, e: Event) -> Measured
         b: 0,
         c: 0,
     };
-    let o = event::event(d, none);
-    let answer = o.answer;
+    let mut answer = event::event(device, none).answer;
     if answer.code == 0 {
-        let refusal = Answer { code: 12, ..answer };
-        return Measured {
-            measure: m,
-            device: d,
-            answer: refusal,
-        };
+        answer.code = Refusal::TooLong.number();
     }
     Measured {
-        measure: m,
-        device: d,
-        answer: answer,
+        measure,
+        device,
+        answer,
     }
 }
 
@@ -138,19 +118,16 @@ pub fn event(m: Measure, d: Device, e: Event) -> Measured
         return too_long(m, d, e);
     }
     let o = event::event(d, e);
-    let after = o.device;
-    let answer = o.answer;
-    if answer.code == 0 {
-        let r = accepted(m, d, e, after);
+    if o.answer.code == 0 {
         return Measured {
-            measure: r,
-            device: after,
-            answer: answer,
+            measure: accepted(m, d, e, o.device),
+            device: o.device,
+            answer: o.answer,
         };
     }
     Measured {
         measure: m,
-        device: after,
-        answer: answer,
+        device: o.device,
+        answer: o.answer,
     }
 }

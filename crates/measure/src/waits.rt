@@ -1,5 +1,5 @@
 // The waits of one source.
-ghost use Rattle.std.specs.Prelude.{◌≡◌, ◌-◌};
+ghost use Rattle.std.specs.Prelude.{◌≡◌};
 ghost use Rattle.measure.specs.Wait.{begun as begun_of, dropped as dropped_of, moved as moved_of, least_with, greatest_with, added as added_of, counted as counted_of};
 
 use crate::Wait;
@@ -7,19 +7,16 @@ use crate::Wait;
 pub(crate) fn begun(now: u32, w: Wait) -> Wait
     ensures { result ≡ begun_of now w }
 {
-    let mut r = w;
-    r.waiting = true;
-    r.since = now;
-    r
+    Wait {
+        since: Some(now),
+        ..w
+    }
 }
 
 pub(crate) fn dropped(w: Wait) -> Wait
     ensures { result ≡ dropped_of w }
 {
-    let mut r = w;
-    r.waiting = false;
-    r.since = 0;
-    r
+    Wait { since: None, ..w }
 }
 
 // A step: IP before and after it, whether it cleared IP in between, and the trace's clocks.
@@ -36,15 +33,6 @@ pub(crate) fn moved(was: bool, cleared: bool, is: bool, now: u32, w: Wait) -> Wa
     dropped(w)
 }
 
-fn lasted(now: u32, since: u32) -> u32
-    ensures { result ≡ now - since }
-{
-    if now < since {
-        return 0;
-    }
-    now - since
-}
-
 #[tactic(auto, unfolding(crate::specs::Wait::least_with))]
 fn least_with(n: u64, w: Wait) -> u64
     ensures { result ≡ least_with n w }
@@ -52,20 +40,14 @@ fn least_with(n: u64, w: Wait) -> u64
     if w.acknowledged == 0 {
         return n;
     }
-    if n < w.least {
-        return n;
-    }
-    w.least
+    n.min(w.least)
 }
 
 #[tactic(auto, unfolding(crate::specs::Wait::greatest_with))]
 fn greatest_with(n: u64, w: Wait) -> u64
     ensures { result ≡ greatest_with n w }
 {
-    if w.greatest < n {
-        return n;
-    }
-    w.greatest
+    n.max(w.greatest)
 }
 
 // One more, of n clocks.
@@ -73,12 +55,11 @@ fn added(n: u64, w: Wait) -> Wait
     ensures { result ≡ added_of n w }
 {
     Wait {
-        waiting: false,
-        since: 0,
-        acknowledged: std::num::wrapping_add_u64(w.acknowledged, 1),
+        since: None,
+        acknowledged: w.acknowledged.wrapping_add(1),
         least: least_with(n, w),
         greatest: greatest_with(n, w),
-        sum: std::num::wrapping_add_u64(w.sum, n),
+        sum: w.sum.wrapping_add(n),
     }
 }
 
@@ -87,8 +68,8 @@ fn added(n: u64, w: Wait) -> Wait
 pub(crate) fn counted(now: u32, w: Wait) -> Wait
     ensures { result ≡ counted_of now w }
 {
-    if w.waiting {
-        return added(lasted(now, w.since) as u64, w);
+    match w.since {
+        Some(since) => added(now.saturating_sub(since) as u64, w),
+        None => w,
     }
-    w
 }

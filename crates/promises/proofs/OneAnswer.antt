@@ -41,8 +41,8 @@ use Rattle.phrases.specs.Refusals.{refusal, trouble}
 use Rattle.refusals.specs.Known.{known_code}
 use Rattle.row_bridge.specs.Boards.{boarded}
 use Rattle.row_lines.specs.RowLines.{device_text, head_text, row_line}
-use Rattle.row_visit.specs.Visits.{acting_of, looking_of, visit_of}
-use Rattle.rows.specs.Rows.{row_after, row_answer}
+use Rattle.row_visit.specs.Visits.{acted_of, acting_of, looked_of, looking_of}
+use Rattle.rows.specs.Rows.{names, row_after, row_answer}
 use Rattle.rules.specs.Access.{after_read, read_of, written_of}
 use Rattle.rules.specs.Counters.{commanded_by, link_of, output_of, reach_of, turn_of}
 use Rattle.rules.specs.Events.{code_of, event_of}
@@ -91,7 +91,9 @@ use Rattle.event.specs.contracts.known as event·known
 use Rattle.inplace.specs.contracts.event_in_place as inplace·event-in-place
 use Rattle.inplace.specs.contracts.lines as inplace·lines
 use Rattle.bridge.specs.contracts.through as bridge·through
-use Rattle.row_visit.specs.contracts.visit as row-visit·visit
+use Rattle.rows.specs.contracts.names as rows·names
+use Rattle.row_visit.specs.contracts.looked as row-visit·looked
+use Rattle.row_visit.specs.contracts.acted as row-visit·acted
 use Rattle.row_visit.specs.contracts.looking as row-visit·looking
 use Rattle.row_visit.specs.contracts.acting as row-visit·acting
 use Rattle.row.specs.contracts.event as row·event
@@ -311,8 +313,14 @@ module _ {M : Type 1} (𝓤 : Ura M) where
   pub row-bridge-event : OneResult 𝓤 row-bridge·event.ended row-bridge·event.clauses
   row-bridge-event = one-result 𝓤 row-bridge·event.ended row-bridge·event.clauses (λ κs a. boarded a.0 a.1.0 a.1.1.0) refl
 
-  pub row-visit-visit : OneResult 𝓤 row-visit·visit.ended row-visit·visit.clauses
-  row-visit-visit = one-result 𝓤 row-visit·visit.ended row-visit·visit.clauses (λ κs a. visit_of a.0 a.1.0) refl
+  pub rows-names : OneResult 𝓤 rows·names.ended rows·names.clauses
+  rows-names = one-result 𝓤 rows·names.ended rows·names.clauses (λ κs a. names a.0) refl
+
+  pub row-visit-looked : OneResult 𝓤 row-visit·looked.ended row-visit·looked.clauses
+  row-visit-looked = one-result 𝓤 row-visit·looked.ended row-visit·looked.clauses (λ κs a. looked_of a.0 a.1.0) refl
+
+  pub row-visit-acted : OneResult 𝓤 row-visit·acted.ended row-visit·acted.clauses
+  row-visit-acted = one-result 𝓤 row-visit·acted.ended row-visit·acted.clauses (λ κs a. acted_of a.0 a.1.0) refl
 
   pub row-visit-looking : OneResult 𝓤 row-visit·looking.ended row-visit·looking.clauses
   row-visit-looking = one-result 𝓤 row-visit·looking.ended row-visit·looking.clauses (λ κs a. looking_of a.0) refl

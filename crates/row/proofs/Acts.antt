@@ -19,20 +19,20 @@ use Rattle.rows.specs.declared.RowAnswer.{RowAnswer}
 use Rattle.rows.specs.declared.Shown.{Shown}
 use Rattle.rows.specs.Rows.{part_of, along_row, shown_of, eight_of}
 use Rattle.row_visit.specs.declared.Pass.{Pass}
-use Rattle.row_visit.specs.Visits.{here_of, one_fewer, next_place, onward, does_of, parted_of, shows_at, filled_of, acted_of, visit_of}
+use Rattle.row_visit.specs.Visits.{here_of, one_fewer, next_place, onward, does_of, parted_of, shows_at, filled_of, acted_of}
 use Rattle.row.specs.Passes.{pass_along, row_along}
 use Rattle.row.proofs.Looks.{next-below, goal, Step, step}
 
 -- the second pass, at some place
 abbrev pub act_at : RowEvent → Bool → Bool → ℕ → Bool → ℕ → Bool → Bool → RowAnswer → Pass
-act_at e acts shows t f p h o a = record { event = e; looks = false; acts = acts; shows = shows; to = t; found = f; place = p; high = h; sound = o; answer = a }
+act_at e acts shows t f p h o a = record { event = e; acts = acts; shows = shows; to = t; found = f; place = p; high = h; sound = o; answer = a }
 
 abbrev answer : ℕ → ℕ → List Shown → RowAnswer
 answer c v l = record { code = c; value = v; devices = l }
 
 -- ---- a pass that does not act
 pub rest-row : (ds : List Device) (e : RowEvent) (sh : Bool) (t : ℕ) (f : Bool) (p : ℕ) (h o : Bool) (a : RowAnswer) → row_along ds (act_at e false sh t f p h o a) ≡ ds
-unfolding visit_of acted_of onward parted_of
+unfolding acted_of onward parted_of
 rest-row [] e sh t f p h o a = refl
 rest-row (d ∷ ds) e sh t f p h o a = ap {B = List Device} (λ l. d ∷ l) (rest-row ds e sh _ _ _ _ _ _)
 
@@ -42,7 +42,7 @@ nothing-taken false = refl
 
 pub rest-answer : (ds : List Device) (e : RowEvent) (t : ℕ) (f : Bool) (p : ℕ) (h o : Bool) (c : ℕ) (l : List Shown)
     → (pass_along ds (act_at e false false t f p h o (answer c 0 l))).answer ≡ answer c 0 l
-unfolding visit_of acted_of onward parted_of filled_of shows_at
+unfolding acted_of onward parted_of filled_of shows_at
 rest-answer [] e t f p h o c l = refl
 rest-answer (d ∷ ds) e t f p h o c l =
     ap (λ (v : ℕ). (pass_along ds (act_at e false false (one_fewer t) (f || here_of d (act_at e false false t f p h o (answer c 0 l))) (next_place p) d.lines.ieo o (answer c v l))).answer)
@@ -55,7 +55,7 @@ placed l p (x ∷ xs) = placed (set l p x) (suc p) xs
 
 pub show-answer : (ds : List Device) (e : RowEvent) (t : ℕ) (f : Bool) (p : ℕ) (h o : Bool) (c : ℕ) (l : List Shown) → p + length ds ≤ 8
     → (pass_along ds (act_at e false true t f p h o (answer c 0 l))).answer ≡ answer c 0 (placed l p (map (λ d. shown_of (effect d 0)) ds))
-unfolding visit_of acted_of onward parted_of filled_of shows_at placed
+unfolding acted_of onward parted_of filled_of shows_at placed
 show-answer [] e t f p h o c l m = refl
 show-answer (d ∷ ds) e t f p h o c l m =
     ap (λ (v : ℕ). (pass_along ds (act_at e false true (one_fewer t) (f || here) (next_place p) d.lines.ieo o
@@ -94,7 +94,7 @@ value_from e t f p h (d ∷ ds) v =
 
 pub act-row : (ds : List Device) (e : RowEvent) (sh : Bool) (t : ℕ) (f : Bool) (p : ℕ) (h o : Bool) (a : RowAnswer) → p + length ds ≤ 8
     → row_along ds (act_at e true sh t f p h o a) ≡ map (λ r. r.device) (effects_from e t f p h ds)
-unfolding visit_of acted_of onward parted_of does_of here_of effects_from
+unfolding acted_of onward parted_of does_of here_of effects_from
 act-row [] e sh t f p h o a m = refl
 act-row (d ∷ ds) e sh t f p h o a m =
     ap (λ (n : ℕ). r.device ∷ row_along ds (act_at e true sh (one_fewer t) (f || hit) n r.device.lines.ieo o (filled_of hit s r))) (next-below p (omega (arith, m)))
@@ -111,7 +111,7 @@ act-row (d ∷ ds) e sh t f p h o a m =
 
 act-answer : (ds : List Device) (e : RowEvent) (t : ℕ) (f : Bool) (p : ℕ) (h o : Bool) (c v : ℕ) (l : List Shown) → p + length ds ≤ 8
     → (pass_along ds (act_at e true true t f p h o (answer c v l))).answer ≡ answer c (value_from e t f p h ds v) (placed l p (map shown_of (effects_from e t f p h ds)))
-unfolding visit_of acted_of onward parted_of does_of here_of filled_of shows_at placed effects_from value_from
+unfolding acted_of onward parted_of does_of here_of filled_of shows_at placed effects_from value_from
 act-answer [] e t f p h o c v l m = refl
 act-answer (d ∷ ds) e t f p h o c v l m =
     ap (λ (b : Bool). (pass_along ds (act_at e true true (one_fewer t) (f || hit) (next_place p) r.device.lines.ieo o

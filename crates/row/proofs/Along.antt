@@ -1,6 +1,6 @@
--- A pass along a row that is done up to the place i: what is still to come of it.
+-- The pass that acts, along a row that is done up to the place i: what is still to come of it.
 --     later-pass, later-row    what the pass and the row will be, from the row zs as it stands and the pass t, where the elements before i are done
---     pass_step, row_step      a visit at i takes it on to the next place
+--     pass_step, row_step      a turn at i takes it on to the next place
 --     pass-end, row-end        at the end nothing is to come
 -- Assumes nothing.
 use mathlib.Core.Path.{◌≡◌, refl, ap}
@@ -10,7 +10,7 @@ use mathlib.Core.List.{List, [], ◌∷◌}
 use lib.ListN.{length, get_or, set}
 use Rattle.rules.specs.declared.Device.{Device}
 use Rattle.row_visit.specs.declared.Pass.{Pass}
-use Rattle.row_visit.specs.Visits.{visit_of}
+use Rattle.row_visit.specs.Visits.{acted_of}
 use Rattle.row.specs.Passes.{pass_along, row_along}
 
 abbrev pub later-pass : ℕ → List Device → Pass → Pass
@@ -24,13 +24,13 @@ later-row (suc i) [] t = []
 later-row (suc i) (z ∷ zs) t = z ∷ later-row i zs t
 
 pub pass_step : (i : ℕ) (zs : List Device) (t : Pass) (d : Device) → i < length zs
-    → later-pass (suc i) (set zs i (visit_of (get_or zs i d) t).device) (visit_of (get_or zs i d) t).pass ≡ later-pass i zs t
+    → later-pass (suc i) (set zs i (acted_of (get_or zs i d) t).device) (acted_of (get_or zs i d) t).pass ≡ later-pass i zs t
 pass_step i [] t d l = absurd (not-suc-le-zero l)
 pass_step zero (z ∷ zs) t d l = refl
 pass_step (suc i) (z ∷ zs) t d l = pass_step i zs t d (le_of_suc-le-suc l)
 
 pub row_step : (i : ℕ) (zs : List Device) (t : Pass) (d : Device) → i < length zs
-    → later-row (suc i) (set zs i (visit_of (get_or zs i d) t).device) (visit_of (get_or zs i d) t).pass ≡ later-row i zs t
+    → later-row (suc i) (set zs i (acted_of (get_or zs i d) t).device) (acted_of (get_or zs i d) t).pass ≡ later-row i zs t
 row_step i [] t d l = absurd (not-suc-le-zero l)
 row_step zero (z ∷ zs) t d l = refl
 row_step (suc i) (z ∷ zs) t d l = ap {B = List Device} (λ ws. z ∷ ws) (row_step i zs t d (le_of_suc-le-suc l))

@@ -20,8 +20,8 @@ use Rattle.rows.specs.declared.Shown.{Shown}
 use Rattle.rows.specs.Rows.{row_sound, misfits, past_end, row_code, reaches, reached, row_effects, shown_of, eight_of, value_in, dark_answer, row_answer, row_after}
 use Rattle.row_visit.specs.declared.Pass.{Pass}
 use Rattle.row_visit.specs.Visits.{to_of, pass_begun, looking_of, verdict_of, acting_of}
-use Rattle.row.specs.Passes.{pass_along, row_along}
-use Rattle.row.proofs.Looks.{either, goal, reached-goal, verdict-is, look-event-is, look-over-is, look-row-is}
+use Rattle.row.specs.Passes.{look_along, pass_along, row_along}
+use Rattle.row.proofs.Looks.{either, goal, reached-goal, verdict-is, look-event-is, look-over-is}
 use Rattle.row.proofs.Acts.{act_at, rest-row, rest-answer, show-answer, effects_from, act-row, acted-answer, along-is, eight_is, effects-length}
 
 -- ---- between the passes
@@ -29,15 +29,15 @@ use Rattle.row.proofs.Acts.{act_at, rest-row, rest-answer, show-answer, effects_
 abbrev second : RowEvent → ℕ → Bool → Pass
 second e c over = act_at e (c == 0) (not (c == 9 || over)) (to_of e) false 0 true true (dark_answer c)
 
-acting-is : (ds : List Device) (e : RowEvent) → acting_of (pass_along ds (looking_of e)) ≡ second e (row_code ds e) (ltb 8 (length ds))
+acting-is : (ds : List Device) (e : RowEvent) → acting_of (look_along ds (looking_of e)) ≡ second e (row_code ds e) (ltb 8 (length ds))
 unfolding acting_of pass_begun
 acting-is ds e =
-    ap (λ (v : RowEvent). pass_begun v false (code == 0) (not (code == 9 || ltb 8 (pass_along ds (looking_of e)).place)) code) (look-event-is ds e)
-    ∙ ap (λ (b : Bool). pass_begun e false (code == 0) (not (code == 9 || b)) code) (look-over-is ds e)
+    ap (λ (v : RowEvent). pass_begun v (code == 0) (not (code == 9 || ltb 8 (look_along ds (looking_of e)).place)) code) (look-event-is ds e)
+    ∙ ap (λ (b : Bool). pass_begun e (code == 0) (not (code == 9 || b)) code) (look-over-is ds e)
     ∙ ap (λ (c : ℕ). second e c (ltb 8 (length ds))) (verdict-is ds e)
   where
     code : ℕ
-    code = verdict_of (pass_along ds (looking_of e))
+    code = verdict_of (look_along ds (looking_of e))
 
 -- more than eight are refused
 over-refused : (ds : List Device) (e : RowEvent) → ltb 8 (length ds) ≡ true → (row_code ds e == 0) ≡ false
@@ -92,9 +92,8 @@ rows-second ds e = by-test (either (row_code ds e == 0)) (either (row_code ds e 
         ap (λ (b : Bool). to b (not (c == 9 || over))) z ∙ rest-row ds e (not (c == 9 || over)) (to_of e) false 0 true true (dark_answer c)
         ∙ sym (ap (λ (b : Bool). if b then map (λ r. r.device) (row_effects ds e) else ds) z)
 
-pub row-comes : (ds : List Device) (e : RowEvent) → row_along (row_along ds (looking_of e)) (acting_of (pass_along ds (looking_of e))) ≡ row_after ds e
-row-comes ds e =
-    ap (λ (l : List Device). row_along l (acting_of (pass_along ds (looking_of e)))) (look-row-is ds e) ∙ ap (row_along ds) (acting-is ds e) ∙ rows-second ds e
+pub row-comes : (ds : List Device) (e : RowEvent) → row_along ds (acting_of (look_along ds (looking_of e))) ≡ row_after ds e
+row-comes ds e = ap (row_along ds) (acting-is ds e) ∙ rows-second ds e
 
 -- ---- the answer
 abbrev answer : ℕ → ℕ → List Shown → RowAnswer
@@ -153,6 +152,5 @@ answer-second ds e = by-test (either (c == 9 || over)) (either (c == 0))
         ∙ ap (answer c 0) (eight_is (map (λ d. shown_of (effect d 0)) ds) (omega (arith, length-map ds (λ d. shown_of (effect d 0)), shown-fits ds (c == 9) h)))
         ∙ sym (ap (λ (b : Bool). due b (c == 0)) h ∙ ap (due false) z)
 
-pub answer-comes : (ds : List Device) (e : RowEvent) → (pass_along (row_along ds (looking_of e)) (acting_of (pass_along ds (looking_of e)))).answer ≡ row_answer ds e
-answer-comes ds e =
-    ap (λ (l : List Device). (pass_along l (acting_of (pass_along ds (looking_of e)))).answer) (look-row-is ds e) ∙ ap (λ (s : Pass). (pass_along ds s).answer) (acting-is ds e) ∙ answer-second ds e
+pub answer-comes : (ds : List Device) (e : RowEvent) → (pass_along ds (acting_of (look_along ds (looking_of e)))).answer ≡ row_answer ds e
+answer-comes ds e = ap (λ (s : Pass). (pass_along ds s).answer) (acting-is ds e) ∙ answer-second ds e

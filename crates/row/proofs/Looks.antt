@@ -1,4 +1,4 @@
--- The pass that looks: it leaves the row, and finds whether the row is sound, how many devices there are, whether the device that the
+-- The pass that looks finds whether the row is sound, how many devices there are, whether the device that the
 -- event reaches came by, and its code.
 -- Assumes nothing.
 use Rattle.std.specs.Prelude.{if◌then◌else◌, ◌==◌}
@@ -20,8 +20,8 @@ use Rattle.rows.specs.declared.RowEvent.{RowEvent}
 use Rattle.rows.specs.declared.RowAnswer.{RowAnswer}
 use Rattle.rows.specs.Rows.{each_sound, chained, row_sound, names, first_requesting, reached, misfits, past_end, row_code, dark_answer}
 use Rattle.row_visit.specs.declared.Pass.{Pass}
-use Rattle.row_visit.specs.Visits.{to_of, pass_begun, here_of, one_fewer, next_place, onward, looking_of, follows_of, code_seen, looked_of, refused_of, verdict_of, visit_of}
-use Rattle.row.specs.Passes.{pass_along, row_along}
+use Rattle.row_visit.specs.Visits.{to_of, pass_begun, here_of, one_fewer, next_place, onward, looking_of, follows_of, code_seen, looked_of, refused_of, verdict_of}
+use Rattle.row.specs.Passes.{look_along}
 
 -- ---- tests
 -- a test comes out one way or the other
@@ -59,16 +59,10 @@ ltb-suc a b = by-test (either (ltb a b))
 
 -- ---- the pass that looks, at some place
 abbrev pub look_at : RowEvent → ℕ → Bool → ℕ → Bool → Bool → RowAnswer → Pass
-look_at e t f p h o a = record { event = e; looks = true; acts = false; shows = false; to = t; found = f; place = p; high = h; sound = o; answer = a }
+look_at e t f p h o a = record { event = e; acts = false; shows = false; to = t; found = f; place = p; high = h; sound = o; answer = a }
 
--- it leaves the row
-pub look-row : (ds : List Device) (e : RowEvent) (t : ℕ) (f : Bool) (p : ℕ) (h o : Bool) (a : RowAnswer) → row_along ds (look_at e t f p h o a) ≡ ds
-unfolding visit_of looked_of onward
-look-row [] e t f p h o a = refl
-look-row (d ∷ ds) e t f p h o a = ap {B = List Device} (λ l. d ∷ l) (look-row ds e _ _ _ _ _ _)
-
-look-event : (ds : List Device) (e : RowEvent) (t : ℕ) (f : Bool) (p : ℕ) (h o : Bool) (a : RowAnswer) → (pass_along ds (look_at e t f p h o a)).event ≡ e
-unfolding visit_of looked_of onward
+look-event : (ds : List Device) (e : RowEvent) (t : ℕ) (f : Bool) (p : ℕ) (h o : Bool) (a : RowAnswer) → (look_along ds (look_at e t f p h o a)).event ≡ e
+unfolding looked_of onward
 look-event [] e t f p h o a = refl
 look-event (d ∷ ds) e t f p h o a = look-event ds e _ _ _ _ _ _
 
@@ -77,8 +71,8 @@ sound_from : ℕ → Bool → List Device → Bool
 sound_from p h [] = true
 sound_from p h (d ∷ ds) = (sound_of d && (p == 0 || beq d.iei h)) && sound_from (next_place p) d.lines.ieo ds
 
-look-sound : (ds : List Device) (e : RowEvent) (t : ℕ) (f : Bool) (p : ℕ) (h o : Bool) (a : RowAnswer) → (pass_along ds (look_at e t f p h o a)).sound ≡ (o && sound_from p h ds)
-unfolding visit_of looked_of onward follows_of sound_from
+look-sound : (ds : List Device) (e : RowEvent) (t : ℕ) (f : Bool) (p : ℕ) (h o : Bool) (a : RowAnswer) → (look_along ds (look_at e t f p h o a)).sound ≡ (o && sound_from p h ds)
+unfolding looked_of onward follows_of sound_from
 look-sound [] e t f p h o a = sym (and-true o)
 look-sound (d ∷ ds) e t f p h o a = look-sound ds e _ _ _ _ _ _ ∙ and_assoc o _ _
 
@@ -109,8 +103,8 @@ pub counted : ℕ → List Device → ℕ
 counted p [] = p
 counted p (d ∷ ds) = counted (next_place p) ds
 
-look-place : (ds : List Device) (e : RowEvent) (t : ℕ) (f : Bool) (p : ℕ) (h o : Bool) (a : RowAnswer) → (pass_along ds (look_at e t f p h o a)).place ≡ counted p ds
-unfolding visit_of looked_of onward counted
+look-place : (ds : List Device) (e : RowEvent) (t : ℕ) (f : Bool) (p : ℕ) (h o : Bool) (a : RowAnswer) → (look_along ds (look_at e t f p h o a)).place ≡ counted p ds
+unfolding looked_of onward counted
 look-place [] e t f p h o a = refl
 look-place (d ∷ ds) e t f p h o a = look-place ds e _ _ _ _ _ _
 
@@ -188,13 +182,13 @@ here-is : (k : Bool) (t : ℕ) (f : Bool) (d : Device) → (if k then not f && d
 here-is true t f d = refl
 here-is false t f d = refl
 
-look-found-kept : (ds : List Device) (e : RowEvent) (t p : ℕ) (h o : Bool) (a : RowAnswer) → (pass_along ds (look_at e t true p h o a)).found ≡ true
-unfolding visit_of looked_of onward
+look-found-kept : (ds : List Device) (e : RowEvent) (t p : ℕ) (h o : Bool) (a : RowAnswer) → (look_along ds (look_at e t true p h o a)).found ≡ true
+unfolding looked_of onward
 look-found-kept [] e t p h o a = refl
 look-found-kept (d ∷ ds) e t p h o a = look-found-kept ds e _ _ _ _ _
 
-look-code-kept : (ds : List Device) (e : RowEvent) (t p : ℕ) (h o : Bool) (a : RowAnswer) → (pass_along ds (look_at e t true p h o a)).answer.code ≡ a.code
-unfolding visit_of looked_of onward here_of code_seen
+look-code-kept : (ds : List Device) (e : RowEvent) (t p : ℕ) (h o : Bool) (a : RowAnswer) → (look_along ds (look_at e t true p h o a)).answer.code ≡ a.code
+unfolding looked_of onward here_of code_seen
 look-code-kept [] e t p h o a = refl
 look-code-kept (d ∷ ds) e t p h o a =
     look-code-kept ds e _ _ _ _ _ ∙ ap (λ (b : Bool). if b then code_of d e.event else a.code) (here-is (is_k e.event) t true d)
@@ -205,34 +199,34 @@ look_next e t p h o a d b =
     look_at e (one_fewer t) b (next_place p) d.lines.ieo (o && follows_of d (look_at e t false p h o a)) (dark_answer (code_seen b d (look_at e t false p h o a)))
 
 -- whether one came by that the event reaches
-look-found : (ds : List Device) (e : RowEvent) (t p : ℕ) (h o : Bool) (a : RowAnswer) → (pass_along ds (look_at e t false p h o a)).found ≡ ltb (goal (is_k e.event) t ds) (length ds)
-unfolding visit_of looked_of onward here_of Step
+look-found : (ds : List Device) (e : RowEvent) (t p : ℕ) (h o : Bool) (a : RowAnswer) → (look_along ds (look_at e t false p h o a)).found ≡ ltb (goal (is_k e.event) t ds) (length ds)
+unfolding looked_of onward here_of Step
 look-found [] e t p h o a = sym (le-ltb (goal (is_k e.event) t []) 0 (omega arith))
 look-found (d ∷ ds) e t p h o a = by-step (step (is_k e.event) t d ds) (look-found ds e _ _ _ _ _)
   where
-    by-step : Step (is_k e.event) t d ds → (pass_along ds (look_next e t p h o a d false)).found ≡ ltb (goal (is_k e.event) (one_fewer t) ds) (length ds)
-        → (pass_along (d ∷ ds) (look_at e t false p h o a)).found ≡ ltb (goal (is_k e.event) t (d ∷ ds)) (suc (length ds))
+    by-step : Step (is_k e.event) t d ds → (look_along ds (look_next e t p h o a d false)).found ≡ ltb (goal (is_k e.event) (one_fewer t) ds) (length ds)
+        → (look_along (d ∷ ds) (look_at e t false p h o a)).found ≡ ltb (goal (is_k e.event) t (d ∷ ds)) (suc (length ds))
     by-step (inl s) later =
-        ap (λ (b : Bool). (pass_along ds (look_next e t p h o a d b)).found) s.0 ∙ look-found-kept ds e _ _ _ _ _
+        ap (λ (b : Bool). (look_along ds (look_next e t p h o a d b)).found) s.0 ∙ look-found-kept ds e _ _ _ _ _
         ∙ sym (ap (λ (g : ℕ). ltb g (suc (length ds))) s.1 ∙ lt-ltb 0 (suc (length ds)) (omega arith))
     by-step (inr s) later =
-        ap (λ (b : Bool). (pass_along ds (look_next e t p h o a d b)).found) s.0 ∙ later ∙ ltb-suc _ (length ds) ∙ sym (ap (λ (g : ℕ). ltb g (suc (length ds))) s.1)
+        ap (λ (b : Bool). (look_along ds (look_next e t p h o a d b)).found) s.0 ∙ later ∙ ltb-suc _ (length ds) ∙ sym (ap (λ (g : ℕ). ltb g (suc (length ds))) s.1)
 
 -- and its code
 look-code : (ds : List Device) (e : RowEvent) (t p : ℕ) (h o : Bool) (a : RowAnswer) → goal (is_k e.event) t ds < length ds
-    → (pass_along ds (look_at e t false p h o a)).answer.code ≡ code_of (get_or ds (goal (is_k e.event) t ds) fresh_of) e.event
-unfolding visit_of looked_of onward here_of code_seen Step
+    → (look_along ds (look_at e t false p h o a)).answer.code ≡ code_of (get_or ds (goal (is_k e.event) t ds) fresh_of) e.event
+unfolding looked_of onward here_of code_seen Step
 look-code [] e t p h o a l = absurd (omega (arith, l))
 look-code (d ∷ ds) e t p h o a l = by-step (step (is_k e.event) t d ds) (look-code ds e (one_fewer t) _ _ _ _)
   where
     by-step : Step (is_k e.event) t d ds
-        → (goal (is_k e.event) (one_fewer t) ds < length ds → (pass_along ds (look_next e t p h o a d false)).answer.code ≡ code_of (get_or ds (goal (is_k e.event) (one_fewer t) ds) fresh_of) e.event)
-        → (pass_along (d ∷ ds) (look_at e t false p h o a)).answer.code ≡ code_of (get_or (d ∷ ds) (goal (is_k e.event) t (d ∷ ds)) fresh_of) e.event
+        → (goal (is_k e.event) (one_fewer t) ds < length ds → (look_along ds (look_next e t p h o a d false)).answer.code ≡ code_of (get_or ds (goal (is_k e.event) (one_fewer t) ds) fresh_of) e.event)
+        → (look_along (d ∷ ds) (look_at e t false p h o a)).answer.code ≡ code_of (get_or (d ∷ ds) (goal (is_k e.event) t (d ∷ ds)) fresh_of) e.event
     by-step (inl s) later =
-        ap (λ (b : Bool). (pass_along ds (look_next e t p h o a d b)).answer.code) s.0 ∙ look-code-kept ds e _ _ _ _ _
+        ap (λ (b : Bool). (look_along ds (look_next e t p h o a d b)).answer.code) s.0 ∙ look-code-kept ds e _ _ _ _ _
         ∙ sym (ap (λ (g : ℕ). code_of (get_or (d ∷ ds) g fresh_of) e.event) s.1)
     by-step (inr s) later =
-        ap (λ (b : Bool). (pass_along ds (look_next e t p h o a d b)).answer.code) s.0 ∙ later (omega (arith, l, s.1))
+        ap (λ (b : Bool). (look_along ds (look_next e t p h o a d b)).answer.code) s.0 ∙ later (omega (arith, l, s.1))
         ∙ sym (ap (λ (g : ℕ). code_of (get_or (d ∷ ds) g fresh_of) e.event) s.1)
 
 -- ---- the code
@@ -365,7 +359,7 @@ goal-zero : (ds : List Device) (e : RowEvent) → names e.event ≡ false → is
 unfolding goal to_of
 goal-zero ds e n k = simp (n, k)
 
-pub verdict-is : (ds : List Device) (e : RowEvent) → verdict_of (pass_along ds (looking_of e)) ≡ row_code ds e
+pub verdict-is : (ds : List Device) (e : RowEvent) → verdict_of (look_along ds (looking_of e)) ≡ row_code ds e
 unfolding looking_of pass_begun
 verdict-is ds e = said ∙ by-test (either (ltb g (length ds))) ∙ sym (code_is ds e)
   where
@@ -373,9 +367,9 @@ verdict-is ds e = said ∙ by-test (either (ltb g (length ds))) ∙ sym (code_is
     g = goal (is_k e.event) (to_of e) ds
 
     seen : ℕ
-    seen = (pass_along ds (look_at e (to_of e) false 0 true true (dark_answer 0))).answer.code
+    seen = (look_along ds (look_at e (to_of e) false 0 true true (dark_answer 0))).answer.code
 
-    said : verdict_of (pass_along ds (look_at e (to_of e) false 0 true true (dark_answer 0)))
+    said : verdict_of (look_along ds (look_at e (to_of e) false 0 true true (dark_answer 0)))
         ≡ decide (row_sound ds) (length ds == 0) (ltb 8 (length ds)) (names e.event) (is_k e.event) (ltb g (length ds)) seen
     said = by_parts _ e _ _ _ _ (look-event ds e _ _ _ _ _ _) (look-sound ds e _ _ _ _ _ _ ∙ whole-sound ds true)
         (ap (λ (n : ℕ). n == 0) (look-place ds e _ _ _ _ _ _) ∙ count_none ds) (ap (ltb 8) (look-place ds e _ _ _ _ _ _) ∙ count-over ds) (look-found ds e _ _ _ _ _)
@@ -391,14 +385,10 @@ verdict-is ds e = said ∙ by-test (either (ltb g (length ds))) ∙ sym (code_is
         ∙ sym (ap (λ (f : Bool). decide (row_sound ds) (length ds == 0) (ltb 8 (length ds)) (names e.event) (is_k e.event) f (code_of (get_or ds g fresh_of) e.event)) h)
 
 -- and how the pass ends otherwise
-pub look-event-is : (ds : List Device) (e : RowEvent) → (pass_along ds (looking_of e)).event ≡ e
+pub look-event-is : (ds : List Device) (e : RowEvent) → (look_along ds (looking_of e)).event ≡ e
 unfolding looking_of pass_begun
 look-event-is ds e = look-event ds e _ _ _ _ _ _
 
-pub look-over-is : (ds : List Device) (e : RowEvent) → ltb 8 (pass_along ds (looking_of e)).place ≡ ltb 8 (length ds)
+pub look-over-is : (ds : List Device) (e : RowEvent) → ltb 8 (look_along ds (looking_of e)).place ≡ ltb 8 (length ds)
 unfolding looking_of pass_begun
 look-over-is ds e = ap (ltb 8) (look-place ds e _ _ _ _ _ _) ∙ count-over ds
-
-pub look-row-is : (ds : List Device) (e : RowEvent) → row_along ds (looking_of e) ≡ ds
-unfolding looking_of pass_begun
-look-row-is ds e = look-row ds e _ _ _ _ _ _

@@ -3,23 +3,28 @@
 
 ghost use Rattle.std.specs.Prelude.{◌≡◌};
 ghost use Rattle.rows.specs.Rows.{row_answer, row_after};
-ghost use Rattle.row.specs.Passes.{pass_along, row_along};
+ghost use Rattle.row.specs.Passes.{look_along, pass_along, row_along};
 
 use row_visit::Pass;
 use rows::{RowAnswer, RowEvent};
 use rules::Device;
 
-// A pass at each device in turn, from the first to the last.
-fn sweep(row: &mut [Device], s: Pass) -> Pass
+// The pass that looks, from the first device to the last.
+fn look(row: &[Device], s: Pass) -> Pass
+    ensures { result ≡ look_along row.now s }
+{
+    row.iter().fold(s, |t, d| row_visit::looked(*d, t))
+}
+
+// The pass that acts, at each device in turn.
+fn act(row: &mut [Device], s: Pass) -> Pass
     ensures { (result ≡ pass_along row.old s) × (row.new ≡ row_along row.old s) }
 {
     let mut t = s;
-    let mut i = 0;
-    while i < row.len() {
-        let v = row_visit::visit(row[i], t);
-        row[i] = v.device;
+    for d in row.iter_mut() {
+        let v = row_visit::acted(*d, t);
+        *d = v.device;
         t = v.pass;
-        i += 1;
     }
     t
 }
@@ -28,9 +33,6 @@ fn sweep(row: &mut [Device], s: Pass) -> Pass
 pub fn event(row: &mut [Device], e: RowEvent) -> RowAnswer
     ensures { (result ≡ row_answer row.old e) × (row.new ≡ row_after row.old e) }
 {
-    let looking = row_visit::looking(e);
-    let looked = sweep(row, looking);
-    let acting = row_visit::acting(looked);
-    let acted = sweep(row, acting);
-    acted.answer
+    let looked = look(row, row_visit::looking(e));
+    act(row, row_visit::acting(looked)).answer
 }

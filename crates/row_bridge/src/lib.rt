@@ -8,6 +8,7 @@ use rows::{RowAnswer, RowEvent};
 use rules::Device;
 
 // Room for eight devices after an event, and the answer.
+// Stays: as an `Outcome` its field `device` would be eight of them.
 #[derive(Clone, Copy)]
 pub struct Boarded {
     pub devices: [Device; 8],
@@ -19,10 +20,7 @@ pub struct Boarded {
 fn few(count: usize) -> usize
     ensures { (result ≡ few_of count) × (result ≤ 8) }
 {
-    if count < 8 {
-        return count;
-    }
-    8
+    count.min(8)
 }
 
 // An event of the row of the first devices.
@@ -30,10 +28,7 @@ pub fn event(devices: [Device; 8], count: usize, e: RowEvent) -> Boarded
     ensures { result ≡ boarded devices count e }
 {
     let n = few(count);
-    let mut row = devices;
-    let a = row::event(&mut row[..n], e);
-    Boarded {
-        devices: row,
-        answer: a,
-    }
+    let mut devices = devices;
+    let answer = row::event(&mut devices[..n], e);
+    Boarded { devices, answer }
 }

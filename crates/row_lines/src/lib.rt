@@ -2,7 +2,6 @@
 #![tactic(auto)]
 
 ghost use Rattle.std.specs.Prelude.{◌≡◌, ◌-◌, drop};
-ghost use Rattle.rows.specs.Rows.{names as names_of};
 ghost use Rattle.texts.specs.Kept.{no_text, typed};
 ghost use Rattle.lines.specs.Lines.{event_in, says_of};
 ghost use Rattle.lines.specs.Pieces.{cut_from};
@@ -30,21 +29,12 @@ fn unreadable() -> RowEvent
     }
 }
 
-// Whether a kind of event names a device.
-#[tactic(auto, unfolding(rows::specs::Rows::names))]
-fn names(e: Event) -> bool
-    ensures { result ≡ names_of e }
-{
-    let k = e.kind;
-    (k == Event::W) | (k == Event::R) | (k == Event::P) | (k == Event::X)
-}
-
 // W, R, P and X have a device before them.
 #[tactic(auto, unfolding(crate::specs::RowLines::of_device))]
 fn of_device(device: u32, e: Event) -> RowEvent
     ensures { result ≡ of_device device e }
 {
-    if names(e) {
+    if rows::names(e) {
         return RowEvent {
             device: device,
             event: e,
@@ -58,7 +48,7 @@ fn of_device(device: u32, e: Event) -> RowEvent
 fn of_all(e: Event) -> RowEvent
     ensures { result ≡ of_all e }
 {
-    if names(e) {
+    if rows::names(e) {
         return unreadable();
     }
     RowEvent {

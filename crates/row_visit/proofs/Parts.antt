@@ -23,7 +23,7 @@ unfolding part_of
 part-later does e zero high d n = absurd (n refl)
 part-later does e (suc p) high d n = refl
 
-pub less-one : (n : ℕ) → (n ≡ 0 → ⊥) → n - 1 ≡ one_fewer n
+pub less_one : (n : ℕ) → n - 1 ≡ one_fewer n
 unfolding one_fewer
-less-one zero n = absurd (n refl)
-less-one (suc m) n = omega arith
+less_one zero = refl
+less_one (suc m) = omega arith

@@ -20,9 +20,9 @@ unfoldable pub to_of : RowEvent → ℕ
 to_of e = if names e.event then e.device else 0
 
 -- before the first device
-unfoldable pub pass_begun : RowEvent → Bool → Bool → Bool → ℕ → Pass
-pass_begun e looks acts shows code =
-    record { event = e; looks = looks; acts = acts; shows = shows; to = to_of e; found = false; place = 0; high = true; sound = true; answer = dark_answer code }
+unfoldable pub pass_begun : RowEvent → Bool → Bool → ℕ → Pass
+pass_begun e acts shows code =
+    record { event = e; acts = acts; shows = shows; to = to_of e; found = false; place = 0; high = true; sound = true; answer = dark_answer code }
 
 -- the event reaches this device: K the first that requests, any other kind the one at its place
 unfoldable pub here_of : Device → Pass → Bool
@@ -42,7 +42,6 @@ unfoldable pub onward : Pass → Bool → Bool → Bool → RowAnswer → Pass
 onward s hit high sound a =
     record {
       event = s.event;
-      looks = s.looks;
       acts = s.acts;
       shows = s.shows;
       to = one_fewer s.to;
@@ -55,7 +54,7 @@ onward s hit high sound a =
 
 -- ---- the pass that looks
 unfoldable pub looking_of : RowEvent → Pass
-looking_of e = pass_begun e true false false 0
+looking_of e = pass_begun e false false 0
 
 -- sound, with its IEI from the one before; that of the first is free
 unfoldable pub follows_of : Device → Pass → Bool
@@ -87,7 +86,7 @@ verdict_of s =
 unfoldable pub acting_of : Pass → Pass
 acting_of s =
     let code = verdict_of s in
-    pass_begun s.event false (code == 0) (not (code == 9 || ltb 8 s.place)) code
+    pass_begun s.event (code == 0) (not (code == 9 || ltb 8 s.place)) code
 
 -- ---- the pass that acts
 -- T goes to all
@@ -109,7 +108,3 @@ acted_of d s =
     let hit = here_of d s in
     let r = parted_of hit d s in
     record { device = r.device; pass = onward s hit r.device.lines.ieo s.sound (filled_of hit s r) }
-
--- ---- a pass at one device
-unfoldable pub visit_of : Device → Pass → Seen
-visit_of d s = if s.looks then record { device = d; pass = looked_of d s } else acted_of d s

@@ -4,59 +4,57 @@ ghost use Rattle.rows.specs.Rows.{iei_from, reached_by, part_of, shown_of};
 ghost use Rattle.rules.specs.Events.{effect as effect_of};
 ghost use Rattle.row_visit.specs.Visits.{refused_of, verdict_of, acting_of, does_of, parted_of, shows_at, filled_of, acted_of};
 
-use crate::looks::{begin, here, names, onward};
+use crate::looks::{begin, here, onward};
 use crate::{Pass, Seen};
 use rows::{RowAnswer, Shown};
-use rules::{Device, Effect, Event, Report};
+use rules::{Device, Effect, Event, Refusal, Report};
 
 // Whether the row has no device, or more than eight, or none of the number that is named.
 #[tactic(auto, unfolding(crate::specs::Visits::refused_of))]
 fn misfit(s: Pass) -> bool
     ensures { result ≡ refused_of s }
 {
-    let e = s.event;
-    let v = e.event;
-    (s.place == 0) | (8 < s.place) | (names(v) & !s.found)
+    (s.place == 0) | (8 < s.place) | (rows::names(s.event.event) & !s.found)
 }
 
 // The code of an event, after the pass that looked.
-#[tactic(auto, unfolding(crate::specs::Visits::verdict_of))]
+#[tactic(auto, unfolding(crate::specs::Visits::verdict_of, rules::specs::Refusals::number_of))]
 fn verdict(s: Pass) -> u8
     ensures { result ≡ verdict_of s }
 {
     if !s.sound {
-        return 9;
+        return Refusal::Unsound.number();
     }
     if misfit(s) {
-        return 13;
+        return Refusal::NoDevice.number();
     }
     if (s.event.event.kind == Event::K) & !s.found {
-        return 6;
+        return Refusal::NoRequester.number();
     }
     s.answer.code
 }
 
 // The pass that acts, before the first device.
-#[tactic(auto, unfolding(crate::specs::Visits::acting_of))]
+#[tactic(auto, unfolding(crate::specs::Visits::acting_of, rules::specs::Refusals::number_of))]
 pub fn acting(s: Pass) -> Pass
     ensures { result ≡ acting_of s }
 {
-    let e = s.event;
     let code = verdict(s);
-    begin(e, false, code == 0, !((code == 9) | (8 < s.place)), code)
+    begin(
+        s.event,
+        code == 0,
+        !((code == Refusal::Unsound.number()) | (8 < s.place)),
+        code,
+    )
 }
 
-fn effect(d: Device, v: u8) -> Effect
-    ensures { result ≡ effect_of d v }
+fn effect(device: Device, value: u8) -> Effect
+    ensures { result ≡ effect_of device value }
 {
-    let none = Report {
-        terminals: [0; 3],
-        lost: [0; 3],
-    };
     Effect {
-        device: d,
-        value: v,
-        report: none,
+        device,
+        value,
+        report: Report::default(),
     }
 }
 
@@ -67,13 +65,10 @@ fn touched(does: bool, e: Event, d: Device) -> Effect
 {
     if does {
         let o = event::event(d, e);
-        let f = o.device;
-        let a = o.answer;
-        let report = a.report;
         return Effect {
-            device: f,
-            value: a.value,
-            report: report,
+            device: o.device,
+            value: o.answer.value,
+            report: o.answer.report,
         };
     }
     effect(d, 0)
@@ -84,9 +79,7 @@ fn touched(does: bool, e: Event, d: Device) -> Effect
 fn joined(high: bool, d: Device) -> Device
     ensures { result ≡ iei_from high d }
 {
-    let mut e = d;
-    e.iei = high;
-    interrupts::relined(e)
+    interrupts::relined(Device { iei: high, ..d })
 }
 
 // What an event does to a device at its place.
@@ -97,13 +90,9 @@ fn part(does: bool, e: Event, place: usize, high: bool, d: Device) -> Effect
     if place == 0 {
         return r;
     }
-    let f = r.device;
-    let after = joined(high, f);
-    let report = r.report;
     Effect {
-        device: after,
-        value: r.value,
-        report: report,
+        device: joined(high, r.device),
+        ..r
     }
 }
 
@@ -121,9 +110,7 @@ fn parted(hit: bool, d: Device, s: Pass) -> Effect
     ensures { result ≡ parted_of hit d s }
 {
     if s.acts {
-        let e = s.event;
-        let v = e.event;
-        return part(does(s, hit), v, s.place, s.high, d);
+        return part(does(s, hit), s.event.event, s.place, s.high, d);
     }
     effect(d, 0)
 }
@@ -133,15 +120,13 @@ fn parted(hit: bool, d: Device, s: Pass) -> Effect
 fn shown(r: Effect) -> Shown
     ensures { result ≡ shown_of r }
 {
-    let d = r.device;
-    let report = r.report;
     Shown {
-        a: levels::pins_at(d, 0),
-        b: levels::pins_at(d, 1),
-        c: levels::pins_at(d, 2),
-        int: d.lines.int,
-        ieo: d.lines.ieo,
-        report: report,
+        a: levels::pins_at(r.device, 0),
+        b: levels::pins_at(r.device, 1),
+        c: levels::pins_at(r.device, 2),
+        int: r.device.lines.int,
+        ieo: r.device.lines.ieo,
+        report: r.report,
     }
 }
 
@@ -150,15 +135,9 @@ fn shown(r: Effect) -> Shown
 fn shows_at(s: Pass, r: Effect) -> [Shown; 8]
     ensures { result ≡ shows_at s r }
 {
-    let a = s.answer;
-    let p = s.place;
-    let mut l = a.devices;
-    if s.shows {
-        if p < 8 {
-            l[p] = shown(r);
-            return l;
-        }
-        return l;
+    let mut l = s.answer.devices;
+    if s.shows && s.place < 8 {
+        l[s.place] = shown(r);
     }
     l
 }
@@ -168,32 +147,22 @@ fn shows_at(s: Pass, r: Effect) -> [Shown; 8]
 fn filled(hit: bool, s: Pass, r: Effect) -> RowAnswer
     ensures { result ≡ filled_of hit s r }
 {
-    let l = shows_at(s, r);
-    if hit {
-        return RowAnswer {
-            code: s.answer.code,
-            value: r.value,
-            devices: l,
-        };
-    }
     RowAnswer {
-        code: s.answer.code,
-        value: s.answer.value,
-        devices: l,
+        value: if hit { r.value } else { s.answer.value },
+        devices: shows_at(s, r),
+        ..s.answer
     }
 }
 
 // The pass at one device.
 #[tactic(auto, unfolding(crate::specs::Visits::acted_of))]
-pub(crate) fn acted(d: Device, s: Pass) -> Seen
+pub fn acted(d: Device, s: Pass) -> Seen
     ensures { result ≡ acted_of d s }
 {
     let hit = here(d, s);
     let r = parted(hit, d, s);
-    let f = r.device;
-    let a = filled(hit, s, r);
     Seen {
-        device: f,
-        pass: onward(s, hit, f.lines.ieo, s.sound, a),
+        device: r.device,
+        pass: onward(s, hit, r.device.lines.ieo, s.sound, filled(hit, s, r)),
     }
 }

@@ -5,21 +5,17 @@
 mod acts;
 mod looks;
 
-ghost use Rattle.std.specs.Prelude.{◌≡◌};
-ghost use Rattle.row_visit.specs.Visits.{visit_of};
-
-pub use acts::acting;
-pub use looks::looking;
+pub use acts::{acted, acting};
+pub use looks::{looked, looking};
 use rows::{RowAnswer, RowEvent};
 use rules::Device;
 
-// What goes along the row. The first pass looks; the second acts on the devices, or not, and shows them in the answer, or not. `to` is
-// how many devices come before the one that is named, `found` whether the one reached has come by, `place` how many have come by, of
-// more than eight 9; `high` is the IEO of the one before, and `sound` tells of those that have come by.
+// What goes along the row. The second pass acts on the devices, or not, and shows them in the answer, or not; the first does neither.
+// `to` is how many devices come before the one that is named, `found` whether the one reached has come by, `place` how many have come
+// by, of more than eight 9; `high` is the IEO of the one before, and `sound` tells of those that have come by.
 #[derive(Clone, Copy)]
 pub struct Pass {
     pub event: RowEvent,
-    pub looks: bool,
     pub acts: bool,
     pub shows: bool,
     pub to: u32,
@@ -30,23 +26,9 @@ pub struct Pass {
     pub answer: RowAnswer,
 }
 
-// A device that a pass has visited, and the pass.
+// A device that the second pass has visited, and the pass.
 #[derive(Clone, Copy)]
 pub struct Seen {
     pub device: Device,
     pub pass: Pass,
-}
-
-// A pass at one device of the row.
-#[tactic(auto, unfolding(crate::specs::Visits::visit_of))]
-pub fn visit(d: Device, s: Pass) -> Seen
-    ensures { result ≡ visit_of d s }
-{
-    if s.looks {
-        return Seen {
-            device: d,
-            pass: looks::looked(d, s),
-        };
-    }
-    acts::acted(d, s)
 }

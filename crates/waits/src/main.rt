@@ -17,8 +17,7 @@ fn answer<W: Write>(m: Measure, d: Device, t: Text, out: &mut W) -> Measured
     ensures { result ≡ measured_of m d (event_in (says_of t)) }
 {
     let r = measure::event(m, d, lines::event_of_line(t));
-    let a = r.answer;
-    console::print(out, texts::answer_text(a));
+    console::print(out, texts::answer_text(r.answer));
     r
 }
 
@@ -42,22 +41,19 @@ fn answer_all<R: Read, W: Write>(input: &mut R, out: &mut W) -> Measure {
 }
 
 fn print_row<W: Write>(out: &mut W, row: [u64; 4]) {
-    print_decimal(out, row[0]);
-    write_all(out, b" ");
-    print_decimal(out, row[1]);
-    write_all(out, b" ");
-    print_decimal(out, row[2]);
-    write_all(out, b" ");
-    print_decimal(out, row[3]);
+    for (i, n) in row.iter().enumerate() {
+        if 0 < i {
+            write_all(out, b" ");
+        }
+        print_decimal(out, *n);
+    }
     write_all(out, b"\n");
 }
 
 fn main(rt: HostRuntime) {
     let mut out = rt.stdout();
-    let t = measure::table(answer_all(&mut rt.stdin(), &mut out));
-    print_row(&mut out, t[0]);
-    print_row(&mut out, t[1]);
-    print_row(&mut out, t[2]);
-    print_row(&mut out, t[3]);
-    print_row(&mut out, t[4]);
+    let table = measure::table(answer_all(&mut rt.stdin(), &mut out));
+    for row in table {
+        print_row(&mut out, row);
+    }
 }

@@ -7,19 +7,19 @@ use Rattle.measure.specs.Measure.{beside}
 use Rattle.measure.proofs.Answers.{code-of, measured-0, measured-n}
 use Rattle.measure.proofs.event.Goals as goal
 
-pub accepted-r-requires : goal.accepted-r-requires
-accepted-r-requires c =
+pub accepted-requires : goal.accepted-requires
+accepted-requires c =
     let p = sym c.is_past.ensures ∙ c.if-is_past.false in
     let q = c.event-o.ensures in
-    (code-of _ _ _ q ∙ c.if-answer-eq0.true, p, ap (λ (o : Outcome Device Answer). o.device) q)
+    (code-of _ _ _ q ∙ c.if-o-eq0.true, p, ap (λ (o : Outcome Device Answer). o.device) q)
 
-pub returns-then-answer-eq0 : goal.returns-then-answer-eq0
-returns-then-answer-eq0 c =
+pub returns-then-o-eq0 : goal.returns-then-o-eq0
+returns-then-o-eq0 c =
     let p = sym c.is_past.ensures ∙ c.if-is_past.false in
-    ap (λ (m : Measure). beside m c.event-o.result) c.accepted-r.ensures
-    ∙ sym (measured-0 _ _ _ c.event-o.ensures _ p c.if-answer-eq0.true)
+    ap (λ (m : Measure). beside m c.event-o.result) c.accepted.ensures
+    ∙ sym (measured-0 _ _ _ c.event-o.ensures _ p c.if-o-eq0.true)
 
 pub returns : goal.returns
 returns c =
     let p = sym c.is_past.ensures ∙ c.if-is_past.false in
-    sym (measured-n _ _ _ c.event-o.ensures _ p c.if-answer-eq0.false)
+    sym (measured-n _ _ _ c.event-o.ensures _ p c.if-o-eq0.false)

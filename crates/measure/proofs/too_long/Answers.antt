@@ -1,10 +1,16 @@
-use Rattle.measure.proofs.Answers.{late-12, late-9}
+use Rattle.std.proofs.Common.{ℕ, ap, ◌∙◌}
+use Rattle.rules.specs.Refusals.{number_of}
+use Rattle.measure.specs.declared.Measured.{Measured}
+use Rattle.measure.proofs.Answers.{with_code, late-12, late-9}
 use Rattle.measure.proofs.too_long.Goals as goal
 
 pub returns-then-answer-eq0 : goal.returns-then-answer-eq0
+unfolding number_of
 returns-then-answer-eq0 c =
-    late-12 _ _ _ c.requires _ c.event-o.ensures c.if-answer-eq0.true
+    let a = c.args in
+    ap {B = Measured} (λ (n : ℕ). record { measure = a.measure; device = a.device; answer = with_code c.event.result.answer n }) c.number.ensures.value
+    ∙ late-12 _ _ _ c.requires _ c.event.ensures c.if-answer-eq0.true
 
-pub returns : goal.returns
-returns c =
-    late-9 _ _ _ c.requires _ c.event-o.ensures c.if-answer-eq0.false
+pub returns-else-answer-eq0 : goal.returns-else-answer-eq0
+returns-else-answer-eq0 c =
+    late-9 _ _ _ c.requires _ c.event.ensures c.if-answer-eq0.false

@@ -7,8 +7,8 @@ overflow_cast-e-in-1 c = record { fits = a_byte _ _ c.requires c.in-1.is }
 pub write-requires : goal.write-requires
 write-requires c = written-channel _ _ c.requires c.in-1.is
 
-pub channel_at-requires : goal.channel_at-requires
-channel_at-requires c = read-channel _ _ c.requires c.in-2.is
+pub bounds-d-e : goal.bounds-d-e
+bounds-d-e c = read-channel _ _ c.requires c.in-2.is
 
 pub overflow_cast-e-in-3 : goal.overflow_cast-e-in-3
 overflow_cast-e-in-3 c = record { fits = some-levels _ _ c.requires c.in-3.is }
