@@ -14,6 +14,7 @@ use Rattle.rules.specs.declared.Source.{Source}
 use Rattle.theorems.specs.declared.Pair.{Pair}
 use Rattle.theorems.proofs.Equal.{beq-true}
 use Rattle.linked.specs.declared.stage.Stage.{Stage}
+use Rattle.linked.specs.declared.chase.Moves.{Moves}
 use Rattle.linked.specs.Stage.{paired_on}
 use Rattle.linked.specs.Chase.{lowered_of, Above, Leaps}
 use Rattle.linked.proofs.Stretch.{stretch}
@@ -78,23 +79,19 @@ pub above : (b : Bool) (n : ℕ) → (b && ltb 2 n) ≡ true → 3 ≤ n
 above b n e = ltb-true 2 n (right b (ltb 2 n) e)
 
 -- ---- bounds of the counters that move
--- a higher one is a lower one
-pub fewer : (n m : ℕ) (a b : Bool) (x : Pair) → m ≤ n → Above n a b x → Above m a b x
-fewer n m a b x h g = record { one = λ e. omega (arith, g.one e); two = λ e. omega (arith, g.two e) }
-
 -- the room of the two counters, one after the other
 abbrev Roomed : ℕ → Bool → Counter → ℕ → Type 0
 Roomed most moves c k = (k ≤ most) × (moves ≡ true → k + 2 ≤ c.count) × (0 < most → 0 < k) × (c.count < 65536)
 
-module _ (f : Stage) (a b : Bool) (x : Pair) (left j k : ℕ) (first : Roomed left a x.one j) (second : Roomed j b x.two k) where
-  pub roomed : Above (k + 2) a b x
+module _ (f : Stage) (m : Moves) (x : Pair) (left j k : ℕ) (first : Roomed left m.one x.one j) (second : Roomed j m.two x.two k) where
+  pub roomed : Above (k + 2) m x
   roomed = record { one = λ e. omega (arith, first.1 e, second.0); two = λ e. second.1 e }
 
-  pub far-leaps : 0 < left → Above 3 a b x → paired_on f x ≡ lowered_of 1 a b x → (y : Pair) → y ≡ lowered_of k a b x
+  pub far-leaps : 0 < left → Above 3 m x → paired_on f x ≡ lowered_of 1 m x → (y : Pair) → y ≡ lowered_of k m x
       → Leaps f x left (record { pair = y; clocks = k })
-  far-leaps some m seen y is =
+  far-leaps some three seen y is =
       record {
-        pair = is ∙ sym (stretch f a b x first.3 second.3 m.one m.two seen k roomed.one roomed.two);
+        pair = is ∙ sym (stretch f m x first.3 second.3 three.one three.two seen k roomed.one roomed.two);
         some = second.2 (first.2 some);
         within = omega (arith, first.0, second.0);
       }

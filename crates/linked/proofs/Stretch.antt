@@ -18,6 +18,7 @@ use Rattle.theorems.specs.declared.Pair.{Pair}
 use Rattle.theorems.specs.Stretch.{lower_of}
 use Rattle.theorems.proofs.Lowered.{quietly, Room, lower-output, lower-zero, again}
 use Rattle.linked.specs.declared.stage.Stage.{Stage}
+use Rattle.linked.specs.declared.chase.Moves.{Moves}
 use Rattle.linked.specs.Stage.{turn_on, link_on, seen_on, side_on, paired_on}
 use Rattle.linked.specs.Chase.{lowered_of}
 
@@ -84,20 +85,20 @@ two-again : (f : Stage) (k : Link) (v : Bool) (c : Counter) (j : ℕ) → k.trig
 unfolding turn_on
 two-again f k v c j t small one r p = again f.version (get_or f.enabled 1 false) k (get_or f.lines 1 0) c t small v j one r p
 
-module _ (f : Stage) (a b : Bool) (x : Pair) (sx : x.one.count < 65536) (sy : x.two.count < 65536)
-    (one : Room 1 a x.one) (two : Room 1 b x.two) (first : paired_on f x ≡ lowered_of 1 a b x) where
+module _ (f : Stage) (m : Moves) (x : Pair) (sx : x.one.count < 65536) (sy : x.two.count < 65536)
+    (one : Room 1 m.one x.one) (two : Room 1 m.two x.two) (first : paired_on f x ≡ lowered_of 1 m x) where
   -- the output of either counter after j counts is what it was
-  one-stays : (j : ℕ) → Room j a x.one → output_of f.version (lower_of j a x.one) ≡ output_of f.version x.one
-  one-stays j r = lower-output f.version j a x.one r
+  one-stays : (j : ℕ) → Room j m.one x.one → output_of f.version (lower_of j m.one x.one) ≡ output_of f.version x.one
+  one-stays j r = lower-output f.version j m.one x.one r
 
-  two-stays : (j : ℕ) → Room j b x.two → output_of f.version (lower_of j b x.two) ≡ output_of f.version x.two
-  two-stays j r = lower-output f.version j b x.two r
+  two-stays : (j : ℕ) → Room j m.two x.two → output_of f.version (lower_of j m.two x.two) ≡ output_of f.version x.two
+  two-stays j r = lower-output f.version j m.two x.two r
 
   -- so the link is steady
   abbrev steady : Link
   steady = link_of f.lc (output_of f.version x.one) (output_of f.version x.one)
 
-  linked : (i j : ℕ) → Room i a x.one → Room j a x.one → link_on f (lower_of i a x.one) (lower_of j a x.one) ≡ steady
+  linked : (i j : ℕ) → Room i m.one x.one → Room j m.one x.one → link_on f (lower_of i m.one x.one) (lower_of j m.one x.one) ≡ steady
   unfolding link_on
   linked i j r s = ap₂ (link_of f.lc) (one-stays i r) (one-stays j s)
 
@@ -105,11 +106,11 @@ module _ (f : Stage) (a b : Bool) (x : Pair) (sx : x.one.count < 65536) (sy : x.
   abbrev saw : ℕ
   saw = seen_on f x.one x.two
 
-  sees : (j : ℕ) → Room j a x.one → Room j b x.two → seen_on f (lower_of j a x.one) (lower_of j b x.two) ≡ saw
+  sees : (j : ℕ) → Room j m.one x.one → Room j m.two x.two → seen_on f (lower_of j m.one x.one) (lower_of j m.two x.two) ≡ saw
   sees j r s = seen_by f _ _ _ _ (one-stays j r) (two-stays j s)
 
   -- ---- the first clock, part by part
-  ones-turn : (turn_on f 0 unlinked x.one).counter ≡ lower_of 1 a x.one
+  ones-turn : (turn_on f 0 unlinked x.one).counter ≡ lower_of 1 m.one x.one
   unfolding paired_on lowered_of
   ones-turn = ap (λ (y : Pair). y.one) first
 
@@ -117,10 +118,10 @@ module _ (f : Stage) (a b : Bool) (x : Pair) (sx : x.one.count < 65536) (sy : x.
   unfolding link_on
   was-steady = ap (λ (c : Counter). link_of f.lc (output_of f.version x.one) (output_of f.version c)) ones-turn ∙ ap (link_of f.lc (output_of f.version x.one)) (one-stays 1 one)
 
-  clock : ended f x (lower_of 1 a x.one) (turn_on f 1 steady x.two) ≡ lowered_of 1 a b x
+  clock : ended f x (lower_of 1 m.one x.one) (turn_on f 1 steady x.two) ≡ lowered_of 1 m x
   clock = sym (ap₂ (λ (k : Link) (c : Counter). ended f x c (turn_on f 1 k x.two)) was-steady ones-turn) ∙ sym (by-turns f x) ∙ first
 
-  twos-turn : turn_on f 1 steady x.two ≡ quietly (lower_of 1 b x.two)
+  twos-turn : turn_on f 1 steady x.two ≡ quietly (lower_of 1 m.two x.two)
   unfolding lowered_of
   twos-turn =
       let t = none-added x.terminals _ (ap (λ (y : Pair). y.terminals) clock) in
@@ -129,37 +130,37 @@ module _ (f : Stage) (a b : Bool) (x : Pair) (sx : x.one.count < 65536) (sy : x.
   same-side : side_on f saw saw x.side ≡ x.side
   unfolding lowered_of
   same-side =
-      sym (ap (λ (n : ℕ). side_on f saw n x.side) (ap (λ (s : Counted). seen_on f (lower_of 1 a x.one) s.counter) twos-turn ∙ sees 1 one two))
+      sym (ap (λ (n : ℕ). side_on f saw n x.side) (ap (λ (s : Counted). seen_on f (lower_of 1 m.one x.one) s.counter) twos-turn ∙ sees 1 one two))
       ∙ ap (λ (y : Pair). y.side) clock
 
   -- ---- the clock after j counts
-  module _ (j : ℕ) (r : Room (suc j) a x.one) (s : Room (suc j) b x.two) where
-    fewer-one : Room j a x.one
+  module _ (j : ℕ) (r : Room (suc j) m.one x.one) (s : Room (suc j) m.two x.two) where
+    fewer-one : Room j m.one x.one
     fewer-one e = omega (arith, r e)
 
-    fewer-two : Room j b x.two
+    fewer-two : Room j m.two x.two
     fewer-two e = omega (arith, s e)
 
-    next_one : (turn_on f 0 unlinked (lower_of j a x.one)).counter ≡ lower_of (suc j) a x.one
-    next_one = one_again f a x.one j sx one r ones-turn
+    next_one : (turn_on f 0 unlinked (lower_of j m.one x.one)).counter ≡ lower_of (suc j) m.one x.one
+    next_one = one_again f m.one x.one j sx one r ones-turn
 
-    next-two : turn_on f 1 (link_on f (lower_of j a x.one) (lower_of (suc j) a x.one)) (lower_of j b x.two) ≡ quietly (lower_of (suc j) b x.two)
+    next-two : turn_on f 1 (link_on f (lower_of j m.one x.one) (lower_of (suc j) m.one x.one)) (lower_of j m.two x.two) ≡ quietly (lower_of (suc j) m.two x.two)
     next-two =
-        ap (λ (k : Link). turn_on f 1 k (lower_of j b x.two)) (linked j (suc j) fewer-one r)
-        ∙ two-again f steady b x.two j (no-trigger f.lc (output_of f.version x.one)) sy two s twos-turn
+        ap (λ (k : Link). turn_on f 1 k (lower_of j m.two x.two)) (linked j (suc j) fewer-one r)
+        ∙ two-again f steady m.two x.two j (no-trigger f.lc (output_of f.version x.one)) sy two s twos-turn
 
-    next-side : side_on f (seen_on f (lower_of j a x.one) (lower_of j b x.two)) (seen_on f (lower_of (suc j) a x.one) (lower_of (suc j) b x.two)) x.side
+    next-side : side_on f (seen_on f (lower_of j m.one x.one) (lower_of j m.two x.two)) (seen_on f (lower_of (suc j) m.one x.one) (lower_of (suc j) m.two x.two)) x.side
         ≡ x.side
-    next-side = ap₂ (λ (m n : ℕ). side_on f m n x.side) (sees j fewer-one fewer-two) (sees (suc j) r s) ∙ same-side
+    next-side = ap₂ (λ (u v : ℕ). side_on f u v x.side) (sees j fewer-one fewer-two) (sees (suc j) r s) ∙ same-side
 
-    next : paired_on f (lowered_of j a b x) ≡ lowered_of (suc j) a b x
+    next : paired_on f (lowered_of j m x) ≡ lowered_of (suc j) m x
     unfolding lowered_of
     next =
-        let y = lowered_of j a b x in
-        by-turns f y ∙ ap (λ (c : Counter). ended f y c (second f y c)) next_one ∙ ap (ended f y (lower_of (suc j) a x.one)) next-two
-        ∙ (λ i. record { one = lower_of (suc j) a x.one; two = lower_of (suc j) b x.two; terminals = add-zero x.terminals i; side = next-side i })
+        let y = lowered_of j m x in
+        by-turns f y ∙ ap (λ (c : Counter). ended f y c (second f y c)) next_one ∙ ap (ended f y (lower_of (suc j) m.one x.one)) next-two
+        ∙ (λ i. record { one = lower_of (suc j) m.one x.one; two = lower_of (suc j) m.two x.two; terminals = add-zero x.terminals i; side = next-side i })
 
-  pub stretch : (k : ℕ) → Room k a x.one → Room k b x.two → iterate k (paired_on f) x ≡ lowered_of k a b x
+  pub stretch : (k : ℕ) → Room k m.one x.one → Room k m.two x.two → iterate k (paired_on f) x ≡ lowered_of k m x
   unfolding iterate lowered_of
-  stretch zero r s = sym (λ i. record { one = lower-zero a x.one i; two = lower-zero b x.two i; terminals = x.terminals; side = x.side })
+  stretch zero r s = sym (λ i. record { one = lower-zero m.one x.one i; two = lower-zero m.two x.two i; terminals = x.terminals; side = x.side })
   stretch (suc j) r s = ap (paired_on f) (stretch j (fewer-one j r s) (fewer-two j r s)) ∙ next j r s

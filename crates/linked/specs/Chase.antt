@@ -1,27 +1,28 @@
 -- A run by leaps, in search of its rounds: what its record says, and when one follows another.
 -- Assumes nothing.
-use Rattle.std.specs.Prelude.{ℕ, ◌+◌, ◌≤◌, ◌<◌, ◌≡◌, Bool, true}
+use Rattle.std.specs.Prelude.{ℕ, ◌+◌, ◌≤◌, ◌<◌, ◌≡◌, true}
 use Rattle.basics.specs.Iterate.{iterate}
 use Rattle.theorems.specs.declared.Pair.{Pair}
 use Rattle.theorems.specs.Stretch.{lower_of}
 use Rattle.linked.specs.declared.stage.Stage.{Stage}
 use Rattle.linked.specs.declared.chase.Leap.{Leap}
 use Rattle.linked.specs.declared.chase.Chase.{Chase}
+use Rattle.linked.specs.declared.chase.Moves.{Moves}
 use Rattle.linked.specs.Stage.{paired_on}
 
--- the pair k timer clocks later, where a and b tell which of the counters move
-unfoldable pub lowered_of : ℕ → Bool → Bool → Pair → Pair
-lowered_of k a b x =
-    record { one = lower_of k a x.one; two = lower_of k b x.two; terminals = x.terminals; side = x.side }
+-- the pair k timer clocks later, where m tells which of the counters move
+unfoldable pub lowered_of : ℕ → Moves → Pair → Pair
+lowered_of k m x =
+    record { one = lower_of k m.one x.one; two = lower_of k m.two x.two; terminals = x.terminals; side = x.side }
 
 -- with another number of terminals
 unfoldable pub with_terminals : Pair → ℕ → Pair
 with_terminals x n = record { one = x.one; two = x.two; terminals = n; side = x.side }
 
--- the counters that move, as a and b tell, stand at n or more
-pub record Above (n : ℕ) (a b : Bool) (x : Pair) : Type 0 where
-  pub one : a ≡ true → n ≤ x.one.count
-  pub two : b ≡ true → n ≤ x.two.count
+-- the counters that move stand at n or more
+pub record Above (n : ℕ) (m : Moves) (x : Pair) : Type 0 where
+  pub one : m.one ≡ true → n ≤ x.one.count
+  pub two : m.two ≡ true → n ≤ x.two.count
 
 -- r is one clock or more from x, and at most those that are left
 pub record Leaps (f : Stage) (x : Pair) (left : ℕ) (r : Leap) : Type 0 where

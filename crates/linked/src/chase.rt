@@ -28,6 +28,13 @@ pub struct Chase {
     pub left: u32,
 }
 
+// Which of the two counters have moved and may go on.
+#[derive(Clone, Copy)]
+pub struct Moves {
+    pub one: bool,
+    pub two: bool,
+}
+
 // Whether two are the same, their terminals apart.
 #[tactic(auto, unfolding(crate::specs::Chase::with_terminals))]
 fn came_back(x: Pair, y: Pair) -> bool
@@ -38,7 +45,7 @@ fn came_back(x: Pair, y: Pair) -> bool
 }
 
 // Whether a counter has moved and may go on.
-fn moves(then: Counter, now: Counter) -> bool
+fn goes_on(then: Counter, now: Counter) -> bool
     ensures { result ≡ true → 3 ≤ then.count }
 {
     (then.count != now.count) & (2 < then.count)
@@ -57,15 +64,15 @@ fn lower(k: u32, moves: bool, c: Counter) -> Counter
     c
 }
 
-// A pair k counts later, where a and b tell which of the counters move.
+// A pair k counts later.
 #[tactic(auto, unfolding(crate::specs::Chase::lowered_of))]
-fn lowered(k: u32, a: bool, b: bool, x: Pair) -> Pair
-    requires { Above k a b x }
-    ensures { result ≡ lowered_of k a b x }
+fn lowered(k: u32, m: Moves, x: Pair) -> Pair
+    requires { Above k m x }
+    ensures { result ≡ lowered_of k m x }
 {
     Pair {
-        one: lower(k, a, x.one),
-        two: lower(k, b, x.two),
+        one: lower(k, m.one, x.one),
+        two: lower(k, m.two, x.two),
         ..x
     }
 }
@@ -82,21 +89,21 @@ fn room(k: u32, moves: bool, c: Counter) -> u32
 }
 
 // Whether nothing but the counts that move is another, each by one.
-fn only_moved(a: bool, b: bool, then: Pair, now: Pair) -> bool
-    requires { Above 3 a b then }
-    ensures { result ≡ true → now ≡ lowered_of 1 a b then }
+fn only_moved(m: Moves, then: Pair, now: Pair) -> bool
+    requires { Above 3 m then }
+    ensures { result ≡ true → now ≡ lowered_of 1 m then }
 {
-    now == lowered(1, a, b, then)
+    now == lowered(1, m, then)
 }
 
 // All clocks like the first.
-fn far(f: Stage, a: bool, b: bool, x: Pair, left: u32) -> Leap
-    requires { (0 < left) × Above 3 a b x × (paired_on f x ≡ lowered_of 1 a b x) }
+fn far(f: Stage, m: Moves, x: Pair, left: u32) -> Leap
+    requires { (0 < left) × Above 3 m x × (paired_on f x ≡ lowered_of 1 m x) }
     ensures { Leaps f x left result }
 {
-    let clocks = room(room(left, a, x.one), b, x.two);
+    let clocks = room(room(left, m.one, x.one), m.two, x.two);
     Leap {
-        pair: lowered(clocks, a, b, x),
+        pair: lowered(clocks, m, x),
         clocks,
     }
 }
@@ -108,10 +115,12 @@ fn leapt(f: Stage, x: Pair, left: u32) -> Leap
     ensures { Leaps f x left result }
 {
     let next = f.clock(x);
-    let a = moves(x.one, next.one);
-    let b = moves(x.two, next.two);
-    if only_moved(a, b, x, next) {
-        return far(f, a, b, x, left);
+    let m = Moves {
+        one: goes_on(x.one, next.one),
+        two: goes_on(x.two, next.two),
+    };
+    if only_moved(m, x, next) {
+        return far(f, m, x, left);
     }
     Leap {
         pair: next,

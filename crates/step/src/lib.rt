@@ -2,6 +2,7 @@
 #![tactic(auto)]
 
 mod pattern;
+mod seen;
 mod still;
 
 ghost use Rattle.std.specs.Prelude.{◌≡◌};
@@ -11,13 +12,13 @@ ghost use Rattle.rules.specs.PortData.{caught_of};
 ghost use Rattle.rules.specs.Patterns.{match_of};
 ghost use Rattle.rules.specs.Interrupts.{came, was_lost};
 ghost use Rattle.rules.specs.Step.{lines_at, catchers, caught_at, step_of};
-ghost use Rattle.levels.specs.Looks.{looks_of};
 ghost use Rattle.step.specs.Parts.{lines_seen, inputs_in, turn_by, turn_at, pattern_by, pattern_after};
 
 use basics::Place;
 use counters::Inputs;
 use levels::Looks;
 use rules::{Counter, Device, Fate, Link, Pattern, Port, Source, Stepped};
+use seen::Seen;
 pub use still::{has_caught, untimed};
 use theorems::Side;
 
@@ -210,23 +211,25 @@ fn pattern_turn(p: Place<2>, before: u8, after: u8, d: Device) -> Side
     side(levels::port_on(d.config, p), q, before, after, x)
 }
 
-// One step, from the record after (a) and the one before: n is seen after (a), w was seen before, and s is seen after (e).
-fn step_by(timer: bool, d1: Device, n: Looks, d0: Device, w: Looks) -> Stepped
-    requires { (w ≡ looks_of d0) × (n ≡ looks_of d1) }
-    ensures { result ≡ step_of timer d0 d1 }
+// One step, from the record before it and the one after (a).
+fn step_by(timer: bool, s0: Seen, s1: Seen) -> Stepped
+    ensures { result ≡ step_of timer s0.device s1.device }
 {
-    let one = counter_turn(inputs(UNLINKED, timer, w, n, CT1), CT1, d1);
-    let output = counters::output(d1.version, one.counter);
-    let k = link(d1.config % 4, ct1_output(d0), output);
-    let two = counter_turn(inputs(k, timer, w, n, CT2), CT2, d1);
-    let three = counter_turn(inputs(UNLINKED, timer, w, n, CT3), CT3, d1);
+    let d = s1.device;
+    let w = s0.looks;
+    let n = s1.looks;
+    let one = counter_turn(inputs(UNLINKED, timer, w, n, CT1), CT1, d);
+    let output = counters::output(d.version, one.counter);
+    let k = link(d.config % 4, ct1_output(s0.device), output);
+    let two = counter_turn(inputs(k, timer, w, n, CT2), CT2, d);
+    let three = counter_turn(inputs(UNLINKED, timer, w, n, CT3), CT3, d);
     let mut e = catch_all(Device {
         counters: [one.counter, two.counter, three.counter],
-        ..d1
+        ..d
     });
     let s = levels::look(e);
-    let a = pattern_turn(Place { at: 0 }, w.seen_a, s.seen_a, d1);
-    let b = pattern_turn(Place { at: 1 }, w.seen_b, s.seen_b, d1);
+    let a = pattern_turn(Place { at: 0 }, w.seen_a, s.seen_a, d);
+    let b = pattern_turn(Place { at: 1 }, w.seen_b, s.seen_b, d);
     e.patterns[0].pmf = a.pmf;
     e.patterns[1].pmf = b.pmf;
     e.sources = [three.source, a.source, two.source, b.source, one.source];
@@ -241,5 +244,5 @@ fn step_by(timer: bool, d1: Device, n: Looks, d0: Device, w: Looks) -> Stepped
 pub fn step(timer: bool, d0: Device, d1: Device) -> Stepped
     ensures { result ≡ step_of timer d0 d1 }
 {
-    step_by(timer, d1, levels::look(d1), d0, levels::look(d0))
+    step_by(timer, Seen::of(d0), Seen::of(d1))
 }

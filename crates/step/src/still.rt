@@ -5,13 +5,12 @@ ghost use Rattle.rules.specs.Registers.{counter_enabled};
 ghost use Rattle.rules.specs.Counters.{reach_of};
 ghost use Rattle.rules.specs.Step.{step_of};
 ghost use Rattle.counters.specs.Rests.{rests_by};
-ghost use Rattle.levels.specs.Looks.{looks_of};
 ghost use Rattle.step.specs.Still.{same_catchers, has_caught, stands_by, counters_rest, still};
 
+use crate::seen::Seen;
 use crate::{CT1, CT2, CT3, UNLINKED, catch_all, ct1_output, inputs, link, matches, step_by};
 use basics::Place;
 use counters::Inputs;
-use levels::Looks;
 use rules::{Device, Pattern};
 
 // Whether two records have the same catchers.
@@ -49,35 +48,38 @@ fn rests(x: Inputs, i: Place<3>, d: Device) -> bool
     counters::rests(levels::counter_on(d.config, i), d.counters[i], x)
 }
 
-// Whether no counter's turn does anything; w and n are the looks of the two records.
+// Whether no counter's turn does anything.
 #[tactic(auto, unfolding(crate::specs::Still::counters_rest, crate::specs::Still::rests_at, rules::specs::Step::lines_at))]
-fn counters_rest(d0: Device, d1: Device, w: Looks, n: Looks) -> bool
-    requires { (w ≡ looks_of d0) × (n ≡ looks_of d1) }
-    ensures { result ≡ counters_rest d0 d1 }
+fn counters_rest(s0: Seen, s1: Seen) -> bool
+    ensures { result ≡ counters_rest s0.device s1.device }
 {
-    let lc = d1.config % 4;
-    let k = link(lc, ct1_output(d0), ct1_output(d1));
+    let d = s1.device;
+    let w = s0.looks;
+    let n = s1.looks;
+    let k = link(d.config % 4, ct1_output(s0.device), ct1_output(d));
     // Where no line has moved and CT1's output has not risen, nothing comes to any of them.
     if (w.b == n.b) & (w.c == n.c) & !k.count {
         return true;
     }
-    rests(inputs(UNLINKED, false, w, n, CT1), CT1, d1)
-        & rests(inputs(k, false, w, n, CT2), CT2, d1)
-        & rests(inputs(UNLINKED, false, w, n, CT3), CT3, d1)
+    rests(inputs(UNLINKED, false, w, n, CT1), CT1, d)
+        & rests(inputs(k, false, w, n, CT2), CT2, d)
+        & rests(inputs(UNLINKED, false, w, n, CT3), CT3, d)
 }
 
 // Whether nothing moves after (a).
 #[tactic(auto, unfolding(crate::specs::Still::still, crate::specs::Still::stands_at))]
-fn is_still(d0: Device, d1: Device, w: Looks, n: Looks) -> bool
-    requires { (w ≡ looks_of d0) × (n ≡ looks_of d1) }
-    ensures { result ≡ still d0 d1 }
+fn is_still(s0: Seen, s1: Seen) -> bool
+    ensures { result ≡ still s0.device s1.device }
 {
-    let a = d1.patterns[0];
-    let b = d1.patterns[1];
-    let rest = counters_rest(d0, d1, w, n);
-    let has = has_caught(d1);
-    let in_a = matches(levels::port_enabled(d1, 0), a, w.seen_a, n.seen_a);
-    let in_b = matches(levels::port_enabled(d1, 1), b, w.seen_b, n.seen_b);
+    let d = s1.device;
+    let w = s0.looks;
+    let n = s1.looks;
+    let a = d.patterns[0];
+    let b = d.patterns[1];
+    let rest = counters_rest(s0, s1);
+    let has = has_caught(d);
+    let in_a = matches(levels::port_enabled(d, 0), a, w.seen_a, n.seen_a);
+    let in_b = matches(levels::port_enabled(d, 1), b, w.seen_b, n.seen_b);
     rest & has & (stands(a, in_a) & stands(b, in_b))
 }
 
@@ -85,10 +87,10 @@ fn is_still(d0: Device, d1: Device, w: Looks, n: Looks) -> bool
 pub fn untimed(d0: Device, d1: Device) -> Device
     ensures { result ≡ (step_of false d0 d1).device }
 {
-    let w = levels::look(d0);
-    let n = levels::look(d1);
-    if is_still(d0, d1, w, n) {
+    let s0 = Seen::of(d0);
+    let s1 = Seen::of(d1);
+    if is_still(s0, s1) {
         return d1;
     }
-    step_by(false, d1, n, d0, w).device
+    step_by(false, s0, s1).device
 }

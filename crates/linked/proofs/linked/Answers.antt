@@ -1,7 +1,3 @@
--- src/lib.rt:16:9
--- src/lib.rt:17:19
--- src/lib.rt:17:5
--- src/lib.rt:13:1
 use mathlib.Core.Path.{ap₂, ◌∙◌}
 use Rattle.basics.specs.Iterate.{iterate}
 use Rattle.theorems.specs.declared.Pair.{Pair}

@@ -14,8 +14,8 @@ returns c =
     (search (rules, length-mapped))
     (search (rules, length-mapped))
     (search (rules, length-mapped))
-    c.requires.0
-    c.requires.1
+    c.args.s0.looked
+    c.args.s1.looked
     (c.counter_turn-one.ensures ∙ ap (turned_with 0 _) c.inputs.ensures)
     (c.link-k.ensures ∙ ap₂ (link_of _) c.ct1_output.ensures c.output-output.ensures)
     (c.counter_turn-two.ensures ∙ ap (turned_with 1 _) c.inputs-2.ensures)

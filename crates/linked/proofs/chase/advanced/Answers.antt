@@ -1,7 +1,3 @@
--- src/chase.rt:149:9
--- src/chase.rt:153:16
--- src/chase.rt:154:15
--- src/chase.rt:144:1
 use Rattle.linked.proofs.Moments.{later}
 use mathlib.Core.Path.{refl}
 use native.Mathlib.Omega.{arith}

@@ -1,9 +1,3 @@
--- src/chase.rt:233:5
--- src/chase.rt:234:23
--- src/chase.rt:234:9
--- src/chase.rt:233:5
--- src/chase.rt:233:5
--- src/chase.rt:221:1
 use Rattle.linked.proofs.Moments.{started, ended}
 use mathlib.Core.Path.{refl}
 use native.Mathlib.Omega.{arith}

@@ -1,5 +1,3 @@
--- src/chase.rt:196:15
--- src/chase.rt:186:1
 use Rattle.linked.proofs.Moments.{anew}
 use mathlib.Core.Path.{refl}
 use Rattle.linked.proofs.chase.renewed.Goals as goal

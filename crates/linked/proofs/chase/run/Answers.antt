@@ -1,12 +1,3 @@
--- src/chase.rt:250:5
--- src/chase.rt:251:13
--- src/chase.rt:253:9
--- src/chase.rt:254:9
--- src/chase.rt:250:5
--- src/chase.rt:250:5
--- src/chase.rt:257:9
--- src/chase.rt:259:5
--- src/chase.rt:243:1
 use Rattle.linked.proofs.Moments.{rest, rest-room}
 use mathlib.Core.Path.{◌∙◌}
 use Rattle.linked.proofs.chase.run.Goals as goal

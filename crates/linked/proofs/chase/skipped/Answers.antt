@@ -1,9 +1,3 @@
--- src/chase.rt:164:13
--- src/chase.rt:168:41
--- src/chase.rt:168:36
--- src/chase.rt:168:20
--- src/chase.rt:177:15
--- src/chase.rt:160:1
 use Rattle.linked.specs.Chase.{with_terminals}
 use Rattle.linked.proofs.Moments.{gains, afterwards, around}
 use mathlib.Core.Path.{refl}

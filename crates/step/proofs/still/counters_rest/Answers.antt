@@ -6,4 +6,4 @@ pub returns-then-w-n : goal.returns-then-w-n
 returns-then-w-n c =
     sym
     (rest-by-lines _ _
-    ((simp (c.link-k.ensures, c.ct1_output-2.ensures, c.ct1_output.ensures, c.requires.0, c.requires.1)) ∙ c.if-w-n.true))
+    ((simp (c.link-k.ensures, c.ct1_output-2.ensures, c.ct1_output.ensures, c.args.s0.looked, c.args.s1.looked)) ∙ c.if-w-n.true))
