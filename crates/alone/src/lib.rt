@@ -1,27 +1,24 @@
 // A counter that goes alone over k timer clocks, with its source, by division.
 #![tactic(auto)]
 
+mod free;
+
 ghost use Rattle.std.specs.Prelude.{◌≡◌, true, false, ◌<◌, ◌≤◌, ◌%◌};
 ghost use Rattle.rules.specs.Counters.{continuous, square};
 ghost use Rattle.rules.specs.Patterns.{event_by, hides_by};
-ghost use Rattle.theorems.specs.Free.{full_of, terminals_after, count_after, free_places, lost_after};
+ghost use Rattle.theorems.specs.Free.{free_places, lost_after};
 ghost use Rattle.theorems.specs.Alone.{reloads_in, last_terminal, last_clock, stops_by, half_after, terminal_at, running_after, stopped_after};
-ghost use Rattle.theorems.specs.Alone.{counter_after, terminals_in, struck_by, source_after, placed_by, alone_after, full_count, full_constant};
+ghost use Rattle.theorems.specs.Alone.{counter_after, terminals_in, struck_by, source_after, placed_by, alone_after};
 
+use free::full;
+pub use free::{count_after, terminals_after};
 use rules::{Counter, Pattern, Source};
 use theorems::Part;
 
-// 0 read as 65,536.
-#[tactic(auto, unfolding(theorems::specs::Free::full_of))]
-fn full(n: u16) -> u32
-    ensures { (result ≡ full_of 65536 n) × (0 < result) × (result ≤ 65536) }
-{
-    match n {
-        0 => 65536,
-        _ => n as u32,
-    }
-}
+// The highest number that a counter holds.
+const LAST: u16 = 65535;
 
+// Stays: one bit of the mode, as `counters` has it; a call of that would be as long.
 fn is_square(c: Counter) -> bool
     ensures { result ≡ square c }
 {
@@ -29,16 +26,11 @@ fn is_square(c: Counter) -> bool
 }
 
 // The terminals of k counts of a counter that is always reloaded.
-#[tactic(auto, unfolding(theorems::specs::Alone::reloads_in, theorems::specs::Free::terminals_after))]
+#[tactic(auto, unfolding(theorems::specs::Alone::reloads_in))]
 fn reloads(c: Counter, k: u32) -> u32
     ensures { (result ≡ reloads_in c k) × (result ≤ k) }
 {
-    let first = full(c.count);
-    let each = full(c.constant);
-    if k < first {
-        return 0;
-    }
-    1 + (k - first) / each
+    terminals_after(LAST, c.count, c.constant, k)
 }
 
 // Which terminal is the last of a counter that is not continuous, and its clock.
@@ -56,7 +48,7 @@ fn last(c: Counter) -> u32
 fn last_clock(c: Counter) -> u32
     ensures { result ≡ last_clock c }
 {
-    full(c.count) + (last(c) - 1) * full(c.constant)
+    full(LAST, c.count) + (last(c) - 1) * full(LAST, c.constant)
 }
 
 #[tactic(auto, unfolding(theorems::specs::Alone::stops_by))]
@@ -81,25 +73,11 @@ fn half(c: Counter, n: u32) -> bool
 fn terminal(c: Counter, k: u32) -> bool
     ensures { result ≡ terminal_at c k }
 {
-    let first = full(c.count);
-    let each = full(c.constant);
+    let first = full(LAST, c.count);
     if k < first {
         return false;
     }
-    (k - first) % each == 0
-}
-
-// The count after k counts; 65,536 is 0.
-#[tactic(auto, unfolding(theorems::specs::Free::count_after))]
-fn count(c: Counter, k: u32) -> u16
-    ensures { result ≡ count_after (full_count c) (full_constant c) k % 65536 }
-{
-    let first = full(c.count);
-    let each = full(c.constant);
-    if k < first {
-        return ((first - k) % 65536) as u16;
-    }
-    ((each - (k - first) % each) % 65536) as u16
+    (k - first) % full(LAST, c.constant) == 0
 }
 
 #[tactic(auto, unfolding(theorems::specs::Alone::running_after))]
@@ -107,7 +85,7 @@ fn running(version: u8, c: Counter, k: u32) -> Counter
     ensures { result ≡ running_after version c k }
 {
     Counter {
-        count: count(c, k),
+        count: count_after(LAST, c.count, c.constant, k),
         half: half(c, reloads(c, k)),
         pulse: (version == 2) & terminal(c, k),
         ..c

@@ -1,7 +1,6 @@
 // One channel: its count, an edge, n clocks by division, and the words that are written to it.
 ghost use Rattle.std.specs.Prelude.{◌≡◌, ◌<◌, ◌≤◌, true};
 ghost use Rattle.basics.specs.Iterate.{iterate};
-ghost use Rattle.theorems.specs.Free.{full_of};
 ghost use Rattle.ctc_rules.specs.Record.{counter_mode, factor_of};
 ghost use Rattle.ctc_rules.specs.Channels.{count_channel, timer_runs, started_of, edge_channel, active_edge, level_channel, stored_word, soft_reset, goes_on, control_word, stored_constant, constant_word};
 ghost use Rattle.ctc_rules.specs.Sound.{sound_channel};
@@ -170,41 +169,23 @@ pub(crate) fn constant(c: Channel, b: u8) -> Channel
 }
 
 // ---- clocks
-// 0 read as 256.
-#[tactic(auto, unfolding(theorems::specs::Free::full_of))]
-fn full(n: u8) -> u32
-    ensures { (result ≡ full_of 256 n) × (0 < result) × (result ≤ 256) }
-{
-    if n == 0 {
-        return 256;
-    }
-    n as u32
-}
+// The highest number that a channel holds.
+const LAST: u16 = 255;
 
 // The zero counts of k counts.
-#[tactic(auto, unfolding(ctc_laws::specs::Divided::zeros_in, theorems::specs::Free::terminals_after))]
+#[tactic(auto, unfolding(ctc_laws::specs::Divided::zeros_in))]
 fn zeros(c: Channel, k: u32) -> u32
     ensures { result ≡ zeros_in c k }
 {
-    let first = full(c.count);
-    let each = full(c.constant);
-    if k < first {
-        return 0;
-    }
-    1 + (k - first) / each
+    alone::terminals_after(LAST, c.count as u16, c.constant as u16, k)
 }
 
 // The down-counter after them; 256 is 0.
-#[tactic(auto, unfolding(ctc_laws::specs::Divided::down_after, theorems::specs::Free::count_after))]
+#[tactic(auto, unfolding(ctc_laws::specs::Divided::down_after))]
 fn down(c: Channel, k: u32) -> u8
     ensures { result ≡ down_after c k }
 {
-    let first = full(c.count);
-    let each = full(c.constant);
-    if k < first {
-        return ((first - k) % 256) as u8;
-    }
-    ((each - (k - first) % each) % 256) as u8
+    alone::count_after(LAST, c.count as u16, c.constant as u16, k) as u8
 }
 
 #[tactic(auto, unfolding(ctc_rules::specs::Record::factor_of))]

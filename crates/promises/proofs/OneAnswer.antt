@@ -56,6 +56,7 @@ use Rattle.rules.specs.Registers.{commanded, counter_command_of, counter_on, kin
 use Rattle.rules.specs.Sound.{same_counter, same_of, same_source, sound_of}
 use Rattle.rules.specs.Step.{catchers, lines_at, ran_of, step_of}
 use Rattle.session.specs.Sessions.{answered, answers_in, answers_last, bytes_read, fed_by, finished_by, start_of}
+use Rattle.theorems.specs.Free.{full_of, terminals_after, count_after}
 use Rattle.theorems.specs.Alone.{alone_after, left_by, placed_by, struck_by}
 use Rattle.theorems.specs.Moving.{pair_of, paired_by}
 use Rattle.theorems.specs.Used.{of}
@@ -156,6 +157,8 @@ use Rattle.clocks.specs.contracts.run as clocks·run
 use Rattle.alone.specs.contracts.alone as alone·alone
 use Rattle.alone.specs.contracts.placed as alone·placed
 use Rattle.alone.specs.contracts.matched as alone·matched
+use Rattle.alone.specs.contracts.terminals_after as alone·terminals-after
+use Rattle.alone.specs.contracts.count_after as alone·count-after
 use Rattle.linked.specs.contracts.linked as linked·linked
 use Rattle.registers.specs.contracts.kind_of as registers·kind-of
 use Rattle.words.specs.contracts.line as words·line
@@ -562,6 +565,16 @@ module _ {M : Type 1} (𝓤 : Ura M) where
 
   pub alone-placed : OneResult 𝓤 alone·placed.ended alone·placed.clauses
   alone-placed = one-result 𝓤 alone·placed.ended alone·placed.clauses (λ κs a. placed_by a.0 a.1.0 a.1.1.0) refl
+
+  pub alone-terminals-after : OneResult 𝓤 alone·terminals-after.ended alone·terminals-after.clauses
+  alone-terminals-after =
+      one_answer 𝓤 alone·terminals-after.ended alone·terminals-after.clauses (λ κs. ℕ) (λ κs r x. r)
+      (λ κs a. terminals_after (full_of (a.0 + 1) a.1.0) (full_of (a.0 + 1) a.1.1.0) a.1.1.1.0) (λ 𝓛 at_mem run κs a g r x. fact_mono 𝓤 _ _ (λ p. p.0))
+
+  pub alone-count-after : OneResult 𝓤 alone·count-after.ended alone·count-after.clauses
+  alone-count-after =
+      one-result 𝓤 alone·count-after.ended alone·count-after.clauses
+      (λ κs a. count_after (full_of (a.0 + 1) a.1.0) (full_of (a.0 + 1) a.1.1.0) a.1.1.1.0 % (a.0 + 1)) refl
 
   pub alone-matched : OneResult 𝓤 alone·matched.ended alone·matched.clauses
   alone-matched =
