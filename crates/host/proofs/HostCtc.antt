@@ -19,7 +19,7 @@ use Rattle.ctc_image.proofs.Codes.{save-0, saved-whole, restore-0}
 use Rattle.ctc_image.proofs.RoundTrip.{restored-image, accepted-sound, accepted-four}
 use Rattle.host.specs.Bytes.{ctc_bytes, ctc_len}
 use Rattle.host.specs.Calls.{Called, called, call_of, host_ctc}
-use Rattle.host.proofs.Wholes.{ctc-long}
+use Rattle.host.specs.Laws.{ctc_long}
 use Rattle.host.proofs.Chain.{no-image, no_room_lem, done, all_of, states, answers}
 
 abbrev pub Holds : List ℕ → Ctc → Type 0
@@ -52,7 +52,7 @@ module _ (s : List ℕ) (d : Ctc) (e : CtcCall) (h : Holds s d) where
   unfolding host_ctc
   call-done b room =
       ap (λ (r : Restored Ctc). call_of r.code (call_ctc r.device e).answer.code (saved_ctc (call_ctc r.device e).device s) (ctc_bytes (call_ctc r.device e).answer) s b) h
-      ∙ done (answer_ctc d e).code (saved_ctc (next_ctc d e) s) (ctc_bytes (answer_ctc d e)) s b ctc_len (image_ctc (next_ctc d e)) (ctc-long (answer_ctc d e)) room overwritten
+      ∙ done (answer_ctc d e).code (saved_ctc (next_ctc d e) s) (ctc_bytes (answer_ctc d e)) s b ctc_len (image_ctc (next_ctc d e)) (ctc_long (answer_ctc d e)) room overwritten
 
   -- and the next call accepts it, as that record
   pub call-holds : (b : List ℕ) → ctc_len ≤ length b → Holds (host_ctc s (λ d. call_ctc d e) b).state (next_ctc d e)
@@ -66,7 +66,7 @@ module _ (s : List ℕ) (e : CtcCall) (b : List ℕ) where
 
   pub call-short : (restored_ctc s).code ≡ 0 → length b < ctc_len → host_ctc s (λ d. call_ctc d e) b ≡ called 7 s b
   unfolding host_ctc
-  call-short z h = no_room_lem _ _ _ s b (restored_ctc s).code ctc_len z (ctc-long _) h
+  call-short z h = no_room_lem _ _ _ s b (restored_ctc s).code ctc_len z (ctc_long _) h
 
 -- ---- calls one after the other, with one answer buffer: the record at the end, and the answers
 module _ (b : List ℕ) (room : ctc_len ≤ length b) where

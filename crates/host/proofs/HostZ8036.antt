@@ -29,7 +29,7 @@ use Rattle.image.proofs.Answers.{accepted, saved-whole}
 use Rattle.image.proofs.RoundTrip.{restored-image, accepted-sound, accepted-shaped}
 use Rattle.host.specs.Bytes.{reply_bytes, answer_len}
 use Rattle.host.specs.Calls.{Called, called, call_of, host_event}
-use Rattle.host.proofs.Wholes.{answer-long}
+use Rattle.host.specs.Laws.{answer_long}
 use Rattle.host.proofs.Chain.{no-image, no_room_lem, done, all_of, states, answers}
 
 abbrev pub Holds : List ℕ → Device → Type 0
@@ -73,7 +73,7 @@ module _ (s : List ℕ) (d : Device) (e : Event) (h : Holds s d) where
   unfolding host_event
   call-done b room =
       ap (λ (r : Restored Device). call_of r.code (event_of r.device e).answer.code (saved_of (event_of r.device e).device s) (reply_bytes (event_of r.device e).answer) s b) h
-      ∙ done (answer_to d e).code (saved_of (next_of d e) s) (reply_bytes (answer_to d e)) s b answer_len (image_of (next_of d e)) (answer-long (answer_to d e)) room overwritten
+      ∙ done (answer_to d e).code (saved_of (next_of d e) s) (reply_bytes (answer_to d e)) s b answer_len (image_of (next_of d e)) (answer_long (answer_to d e)) room overwritten
 
   -- and the next call accepts it, as that record
   pub call-holds : (b : List ℕ) → answer_len ≤ length b → Holds (host_event s e b).state (next_of d e)
@@ -87,7 +87,7 @@ module _ (s : List ℕ) (e : Event) (b : List ℕ) where
 
   pub call-short : (restored_of s).code ≡ 0 → length b < answer_len → host_event s e b ≡ called 7 s b
   unfolding host_event
-  call-short z h = no_room_lem _ _ _ s b (restored_of s).code answer_len z (answer-long _) h
+  call-short z h = no_room_lem _ _ _ s b (restored_of s).code answer_len z (answer_long _) h
 
 -- ---- calls one after the other, with one answer buffer: the record at the end, and the answers
 module _ (b : List ℕ) (room : answer_len ≤ length b) where

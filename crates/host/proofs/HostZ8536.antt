@@ -21,7 +21,7 @@ use Rattle.image.proofs.PointedSaved.{save-0, saved-whole}
 use Rattle.image.proofs.PointedTrip.{restored-image, accepted-sound, accepted-shaped}
 use Rattle.host.specs.Bytes.{reply_bytes, answer_len}
 use Rattle.host.specs.Calls.{Called, called, call_of, host_event_z8536}
-use Rattle.host.proofs.Wholes.{answer-long}
+use Rattle.host.specs.Laws.{answer_long}
 use Rattle.host.proofs.Chain.{no-image, no_room_lem, done, all_of, states, answers}
 
 abbrev pub Holds : List ℕ → Z8536 → Type 0
@@ -54,7 +54,7 @@ module _ (s : List ℕ) (d : Z8536) (e : Event) (h : Holds s d) where
   unfolding host_event_z8536
   call-done b room =
       ap (λ (r : Restored Z8536). call_of r.code (event_z8536 r.device e).answer.code (saved_z8536 (event_z8536 r.device e).device s) (reply_bytes (event_z8536 r.device e).answer) s b) h
-      ∙ done (answer_z8536 d e).code (saved_z8536 (next_z8536 d e) s) (reply_bytes (answer_z8536 d e)) s b answer_len (image_z8536 (next_z8536 d e)) (answer-long (answer_z8536 d e)) room overwritten
+      ∙ done (answer_z8536 d e).code (saved_z8536 (next_z8536 d e) s) (reply_bytes (answer_z8536 d e)) s b answer_len (image_z8536 (next_z8536 d e)) (answer_long (answer_z8536 d e)) room overwritten
 
   -- and the next call accepts it, as that record
   pub call-holds : (b : List ℕ) → answer_len ≤ length b → Holds (host_event_z8536 s e b).state (next_z8536 d e)
@@ -68,7 +68,7 @@ module _ (s : List ℕ) (e : Event) (b : List ℕ) where
 
   pub call-short : (restored_z8536 s).code ≡ 0 → length b < answer_len → host_event_z8536 s e b ≡ called 7 s b
   unfolding host_event_z8536
-  call-short z h = no_room_lem _ _ _ s b (restored_z8536 s).code answer_len z (answer-long _) h
+  call-short z h = no_room_lem _ _ _ s b (restored_z8536 s).code answer_len z (answer_long _) h
 
 -- ---- calls one after the other, with one answer buffer: the record at the end, and the answers
 module _ (b : List ℕ) (room : answer_len ≤ length b) where

@@ -1,105 +1,73 @@
--- The two ways through each call: `stays` and `goes` of `Calls`, at the restore, the call by value, the save and the bytes of each device.
+-- The two ways through a call of any device, refused and not, from what its state was opened to.
 -- Assumes nothing.
 use Prim.Native.Nat.{ℕ}
-use mathlib.Core.Path.{◌≡◌, refl}
+use mathlib.Core.Path.{◌≡◌, refl, sym, ap, ◌∙◌}
+use mathlib.Core.Bool.{Bool, true, false}
 use mathlib.Core.List.{List}
+use borrow.Author.Tests.{eqb-true, eqb-false}
+use lib.Dec.{eqb}
 use lib.ListN.{length}
+use Rattle.std.specs.Prelude.{Ok, Err, if◌then◌else◌}
 use Rattle.basics.specs.Buffer.{laid_of}
-use Rattle.rules.specs.declared.Event.{Event}
-use Rattle.rules.specs.declared.Answer.{Answer}
 use Rattle.rules.specs.declared.Lines.{Lines}
-use Rattle.rules.specs.declared.Device.{Device}
-use Rattle.z8536.specs.declared.Z8536.{Z8536}
 use Rattle.rules.specs.declared.Outcome.{Outcome}
-use Rattle.rules.specs.Events.{event_of}
-use Rattle.z8536.specs.Z8536.{event_z8536}
-use Rattle.ctc_rules.specs.declared.Ctc.{Ctc}
-use Rattle.ctc_rules.specs.declared.CtcAnswer.{CtcAnswer}
-use Rattle.ctc_rules.specs.Interrupts.{lines_ctc}
 use Rattle.image.specs.declared.Restored.{Restored}
-use Rattle.image.specs.Image.{saved_of, restored_of}
-use Rattle.image.specs.Pointed.{saved_z8536, restored_z8536}
-use Rattle.ctc_image.specs.Image.{saved_ctc, restored_ctc}
-use Rattle.host.specs.Bytes.{count_bytes, reply_bytes, ctc_bytes, line_bytes, answer_len, ctc_len, lines_len}
-use Rattle.host.specs.Calls.{called, refusal_of, host_event, host_event_z8536, host_ctc, host_lines, host_lines_z8536, host_lines_ctc}
+use Rattle.host.specs.Bytes.{line_bytes, lines_len}
+use Rattle.host.specs.Calls.{called, refusal_of, opened_by, hosted, hosted_lines}
 use Rattle.host.proofs.Calls.{stays, goes}
-
--- how long the answers are
-pub answer-long : (a : Answer) → length (reply_bytes a) ≡ answer_len
-unfolding reply_bytes count_bytes
-answer-long a = refl
-
-pub ctc-long : (a : CtcAnswer) → length (ctc_bytes a) ≡ ctc_len
-unfolding ctc_bytes count_bytes
-ctc-long a = refl
 
 pub lines_long : (l : Lines) → length (line_bytes l) ≡ lines_len
 unfolding line_bytes
 lines_long l = refl
 
-module _ (s b : List ℕ) where
-  pub event-stays : (e : Event) (r : Restored Device) (n : ℕ) → r ≡ restored_of s → n ≡ refusal_of r.code (length b) answer_len → (n ≡ 0 → ⊥) → called n s b ≡ host_event s e b
-  unfolding host_event
-  event-stays e =
-      stays (λ r. r.code) (λ r. event_of r.device e) (λ o. o.answer.code) (λ o. saved_of o.device s) (λ o. reply_bytes o.answer)
-      answer_len (λ o. answer-long o.answer) s b (restored_of s)
+-- what is known where a state was not opened, and where it was
+module _ {D : Type 0} (r : Restored D) (n m : ℕ) where
+  abbrev refusal : ℕ
+  refusal = refusal_of r.code n m
 
-  pub event-goes : (e : Event) (r : Restored Device) (o : Outcome Device Answer) (n : ℕ) (w x y : List ℕ) → r ≡ restored_of s → n ≡ refusal_of r.code (length b) answer_len → n ≡ 0
-      → o ≡ event_of r.device e → w ≡ reply_bytes o.answer → x ≡ saved_of o.device s → y ≡ laid_of b 0 w → called o.answer.code x y ≡ host_event s e b
-  unfolding host_event
-  event-goes e =
-      goes (λ r. r.code) (λ r. event_of r.device e) (λ o. o.answer.code) (λ o. saved_of o.device s) (λ o. reply_bytes o.answer)
-      answer_len (λ o. answer-long o.answer) s b (restored_of s)
+  closed : (k : ℕ) → Err k ≡ opened_by r n m → (k ≡ refusal) × (refusal ≡ 0 → ⊥)
+  unfolding opened_by
+  closed k e = by-test (eqb refusal 0) refl e
+    where
+      by-test : (t : Bool) → eqb refusal 0 ≡ t → Err k ≡ (if t then Ok r.device else Err refusal) → (k ≡ refusal) × (refusal ≡ 0 → ⊥)
+      by-test true p q = absurd (cc)
+      by-test false p q = (cc, eqb-false refusal 0 p)
 
-  pub event-z8536-stays : (e : Event) (r : Restored Z8536) (n : ℕ) → r ≡ restored_z8536 s → n ≡ refusal_of r.code (length b) answer_len → (n ≡ 0 → ⊥) → called n s b ≡ host_event_z8536 s e b
-  unfolding host_event_z8536
-  event-z8536-stays e =
-      stays (λ r. r.code) (λ r. event_z8536 r.device e) (λ o. o.answer.code) (λ o. saved_z8536 o.device s) (λ o. reply_bytes o.answer)
-      answer_len (λ o. answer-long o.answer) s b (restored_z8536 s)
+  open_to : (d : D) → Ok d ≡ opened_by r n m → (d ≡ r.device) × (refusal ≡ 0)
+  unfolding opened_by
+  open_to d e = by-test (eqb refusal 0) refl e
+    where
+      by-test : (t : Bool) → eqb refusal 0 ≡ t → Ok d ≡ (if t then Ok r.device else Err refusal) → (d ≡ r.device) × (refusal ≡ 0)
+      by-test true p q = (cc, eqb-true refusal 0 p)
+      by-test false p q = absurd (cc)
 
-  pub event-z8536-goes : (e : Event) (r : Restored Z8536) (o : Outcome Z8536 Answer) (n : ℕ) (w x y : List ℕ) → r ≡ restored_z8536 s → n ≡ refusal_of r.code (length b) answer_len → n ≡ 0
-      → o ≡ event_z8536 r.device e → w ≡ reply_bytes o.answer → x ≡ saved_z8536 o.device s → y ≡ laid_of b 0 w → called o.answer.code x y ≡ host_event_z8536 s e b
-  unfolding host_event_z8536
-  event-z8536-goes e =
-      goes (λ r. r.code) (λ r. event_z8536 r.device e) (λ o. o.answer.code) (λ o. saved_z8536 o.device s) (λ o. reply_bytes o.answer)
-      answer_len (λ o. answer-long o.answer) s b (restored_z8536 s)
+module _ {D : Type 0} (restored : List ℕ → Restored D) (s b : List ℕ) where
+  module _ {A : Type 0} (saved : D → List ℕ → List ℕ) (code : A → ℕ) (bytes : A → List ℕ) (m : ℕ) (long : (a : A) → length (bytes a) ≡ m) (f : D → Outcome D A) where
+    pub refused : (k : ℕ) → Err k ≡ opened_by (restored s) (length b) m → called k s b ≡ hosted restored saved code bytes s f b
+    unfolding hosted
+    refused k e =
+        let p = closed (restored s) (length b) m k e in
+        stays (λ r. r.code) (λ r. f r.device) (λ o. code o.answer) (λ o. saved o.device s) (λ o. bytes o.answer)
+        m (λ o. long o.answer) s b (restored s) (restored s) k refl p.0 (λ z. p.1 (sym p.0 ∙ z))
 
-  pub ctc-stays : (f : Ctc → Outcome Ctc CtcAnswer) (r : Restored Ctc) (n : ℕ) → r ≡ restored_ctc s → n ≡ refusal_of r.code (length b) ctc_len → (n ≡ 0 → ⊥) → called n s b ≡ host_ctc s f b
-  unfolding host_ctc
-  ctc-stays f =
-      stays (λ r. r.code) (λ r. f r.device) (λ o. o.answer.code) (λ o. saved_ctc o.device s) (λ o. ctc_bytes o.answer)
-      ctc_len (λ o. ctc-long o.answer) s b (restored_ctc s)
+    pub done : (d : D) → Ok d ≡ opened_by (restored s) (length b) m
+        → called (code (f d).answer) (saved (f d).device s) (laid_of b 0 (bytes (f d).answer)) ≡ hosted restored saved code bytes s f b
+    unfolding hosted
+    done d e =
+        let p = open_to (restored s) (length b) m d e in
+        goes (λ r. r.code) (λ r. f r.device) (λ o. code o.answer) (λ o. saved o.device s) (λ o. bytes o.answer)
+        m (λ o. long o.answer) s b (restored s) (restored s) (f d) (refusal (restored s) (length b) m) _ _ _ refl refl p.1 (ap f p.0) refl refl refl
 
-  pub ctc-goes : (f : Ctc → Outcome Ctc CtcAnswer) (r : Restored Ctc) (o : Outcome Ctc CtcAnswer) (n : ℕ) (w x y : List ℕ) → r ≡ restored_ctc s → n ≡ refusal_of r.code (length b) ctc_len → n ≡ 0
-      → o ≡ f r.device → w ≡ ctc_bytes o.answer → x ≡ saved_ctc o.device s → y ≡ laid_of b 0 w → called o.answer.code x y ≡ host_ctc s f b
-  unfolding host_ctc
-  ctc-goes f =
-      goes (λ r. r.code) (λ r. f r.device) (λ o. o.answer.code) (λ o. saved_ctc o.device s) (λ o. ctc_bytes o.answer)
-      ctc_len (λ o. ctc-long o.answer) s b (restored_ctc s)
+  module _ (lines : D → Lines) where
+    pub lines-refused : (k : ℕ) → Err k ≡ opened_by (restored s) (length b) lines_len → called k s b ≡ hosted_lines restored lines s b
+    unfolding hosted_lines
+    lines-refused k e =
+        let p = closed (restored s) (length b) lines_len k e in
+        stays (λ r. r.code) (λ r. lines r.device) (λ o. 0) (λ o. s) line_bytes lines_len lines_long s b (restored s) (restored s) k refl p.0 (λ z. p.1 (sym p.0 ∙ z))
 
-  pub lines-stays : (r : Restored Device) (n : ℕ) → r ≡ restored_of s → n ≡ refusal_of r.code (length b) lines_len → (n ≡ 0 → ⊥) → called n s b ≡ host_lines s b
-  unfolding host_lines
-  lines-stays = stays (λ r. r.code) (λ r. r.device.lines) (λ o. 0) (λ o. s) line_bytes lines_len lines_long s b (restored_of s)
-
-  pub lines-goes : (r : Restored Device) (o : Lines) (n : ℕ) (w x y : List ℕ) → r ≡ restored_of s → n ≡ refusal_of r.code (length b) lines_len → n ≡ 0
-      → o ≡ r.device.lines → w ≡ line_bytes o → x ≡ s → y ≡ laid_of b 0 w → called 0 x y ≡ host_lines s b
-  unfolding host_lines
-  lines-goes = goes (λ r. r.code) (λ r. r.device.lines) (λ o. 0) (λ o. s) line_bytes lines_len lines_long s b (restored_of s)
-
-  pub lines-z8536-stays : (r : Restored Z8536) (n : ℕ) → r ≡ restored_z8536 s → n ≡ refusal_of r.code (length b) lines_len → (n ≡ 0 → ⊥) → called n s b ≡ host_lines_z8536 s b
-  unfolding host_lines_z8536
-  lines-z8536-stays = stays (λ r. r.code) (λ r. r.device.core.lines) (λ o. 0) (λ o. s) line_bytes lines_len lines_long s b (restored_z8536 s)
-
-  pub lines-z8536-goes : (r : Restored Z8536) (o : Lines) (n : ℕ) (w x y : List ℕ) → r ≡ restored_z8536 s → n ≡ refusal_of r.code (length b) lines_len → n ≡ 0
-      → o ≡ r.device.core.lines → w ≡ line_bytes o → x ≡ s → y ≡ laid_of b 0 w → called 0 x y ≡ host_lines_z8536 s b
-  unfolding host_lines_z8536
-  lines-z8536-goes = goes (λ r. r.code) (λ r. r.device.core.lines) (λ o. 0) (λ o. s) line_bytes lines_len lines_long s b (restored_z8536 s)
-
-  pub lines-ctc-stays : (r : Restored Ctc) (n : ℕ) → r ≡ restored_ctc s → n ≡ refusal_of r.code (length b) lines_len → (n ≡ 0 → ⊥) → called n s b ≡ host_lines_ctc s b
-  unfolding host_lines_ctc
-  lines-ctc-stays = stays (λ r. r.code) (λ r. lines_ctc r.device) (λ o. 0) (λ o. s) line_bytes lines_len lines_long s b (restored_ctc s)
-
-  pub lines-ctc-goes : (r : Restored Ctc) (o : Lines) (n : ℕ) (w x y : List ℕ) → r ≡ restored_ctc s → n ≡ refusal_of r.code (length b) lines_len → n ≡ 0
-      → o ≡ lines_ctc r.device → w ≡ line_bytes o → x ≡ s → y ≡ laid_of b 0 w → called 0 x y ≡ host_lines_ctc s b
-  unfolding host_lines_ctc
-  lines-ctc-goes = goes (λ r. r.code) (λ r. lines_ctc r.device) (λ o. 0) (λ o. s) line_bytes lines_len lines_long s b (restored_ctc s)
+    pub lines-done : (d : D) → Ok d ≡ opened_by (restored s) (length b) lines_len → called 0 s (laid_of b 0 (line_bytes (lines d))) ≡ hosted_lines restored lines s b
+    unfolding hosted_lines
+    lines-done d e =
+        let p = open_to (restored s) (length b) lines_len d e in
+        goes (λ r. r.code) (λ r. lines r.device) (λ o. 0) (λ o. s) line_bytes lines_len lines_long s b
+        (restored s) (restored s) (lines d) (refusal (restored s) (length b) lines_len) _ _ _ refl refl p.1 (ap lines p.0) refl refl refl

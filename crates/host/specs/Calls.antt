@@ -1,12 +1,14 @@
 -- What the calls of a host do to its two buffers: "the device at rest is its image, in a buffer that the host owns". A call is a restore of
 -- the state, the call by value, and a save of the record after it.
 -- Assumes nothing.
-use Rattle.std.specs.Prelude.{ℕ, not, List, ◌++◌, ltb, length, drop, if◌then◌else◌, ◌==◌}
+use Rattle.std.specs.Prelude.{ℕ, Result, Ok, Err, not, List, ◌++◌, ltb, length, drop, if◌then◌else◌, ◌==◌}
 use Rattle.rules.specs.declared.Event.{Event}
 use Rattle.rules.specs.Events.{event_of}
 use Rattle.z8536.specs.Z8536.{event_z8536}
 use Rattle.ctc_rules.specs.declared.CtcAnswer.{CtcAnswer}
 use Rattle.rules.specs.declared.Outcome.{Outcome}
+use Rattle.rules.specs.declared.Lines.{Lines}
+use Rattle.image.specs.declared.Restored.{Restored}
 use Rattle.ctc_rules.specs.declared.Ctc.{Ctc}
 use Rattle.ctc_rules.specs.Interrupts.{lines_ctc}
 use Rattle.ctc_rules.specs.Events.{event_ctc, end_of_service}
@@ -37,6 +39,23 @@ unfoldable pub call_of : ℕ → ℕ → List ℕ → List ℕ → List ℕ → 
 call_of restored k saved w s b =
     let refusal = refusal_of restored (length b) (length w) in
     if refusal == 0 then called k saved (w ++ drop (length w) b) else called refusal s b
+
+-- what a call goes on with, where an answer of m bytes is to stand in a buffer of n: the device that was restored, or why it does not
+unfoldable pub opened_by : {D : Type 0} → Restored D → ℕ → ℕ → Result D ℕ
+opened_by r n m = let refusal = refusal_of r.code n m in if refusal == 0 then Ok r.device else Err refusal
+
+-- a call of any device, by its restore, its save, and the code and the bytes of its answer, where f is the call by value
+unfoldable pub hosted : {D A : Type 0} → (List ℕ → Restored D) → (D → List ℕ → List ℕ) → (A → ℕ) → (A → List ℕ) → List ℕ → (D → Outcome D A) → List ℕ → Called
+hosted restored saved code bytes s f b =
+    let r = restored s in
+    let o = f r.device in
+    call_of r.code (code o.answer) (saved o.device s) (bytes o.answer) s b
+
+-- a call for the lines of any device
+unfoldable pub hosted_lines : {D : Type 0} → (List ℕ → Restored D) → (D → Lines) → List ℕ → List ℕ → Called
+hosted_lines restored lines s b =
+    let r = restored s in
+    call_of r.code 0 s (line_bytes (lines r.device)) s b
 
 -- ---- event: "the bytes after are those that saving the event's record writes, and the answer's bytes are the event's answer; equal to
 -- restore, event, save"

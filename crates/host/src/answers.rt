@@ -1,5 +1,5 @@
 // The bytes of an answer at their places, as hosts/wolfscarer.h names them.
-ghost use Rattle.std.specs.Prelude.{◌≡◌, [], ◌∷◌};
+ghost use Rattle.std.specs.Prelude.{◌≡◌};
 ghost use Rattle.host.specs.Bytes.{count_bytes, reply_bytes, ctc_bytes, line_bytes};
 
 use ctc_rules::CtcAnswer;
@@ -12,107 +12,42 @@ pub(crate) const CTC: usize = 21;
 
 pub(crate) const LINES: usize = 3;
 
-// The four bytes of a count.
-#[derive(Clone, Copy)]
-struct Four {
-    top: u8,
-    upper: u8,
-    lower: u8,
-    low: u8,
-}
-
+// A count, high byte first.
 #[tactic(auto, unfolding(crate::specs::Bytes::count_bytes))]
-fn count(n: u32) -> Four
-    ensures { count_bytes n ≡ result.top ∷ result.upper ∷ result.lower ∷ result.low ∷ [] }
+fn count(n: u32) -> [u8; 4]
+    ensures { result ≡ count_bytes n }
 {
-    Four {
-        top: (n / 16777216) as u8,
-        upper: (n / 65536 % 256) as u8,
-        lower: (n / 256 % 256) as u8,
-        low: (n % 256) as u8,
-    }
+    n.to_be_bytes()
 }
 
 #[tactic(auto, unfolding(crate::specs::Bytes::reply_bytes))]
 pub(crate) fn answer(a: Answer) -> [u8; ANSWER]
     ensures { result ≡ reply_bytes a }
 {
-    let report = a.report;
-    let terminals = report.terminals;
-    let lost = report.lost;
-    let t1 = count(terminals[0]);
-    let t2 = count(terminals[1]);
-    let t3 = count(terminals[2]);
-    let l1 = count(lost[0]);
-    let l2 = count(lost[1]);
-    let l3 = count(lost[2]);
-    [
-        a.code,
-        a.value,
-        a.a,
-        a.b,
-        a.c,
-        a.int as u8,
-        a.ieo as u8,
-        t1.top,
-        t1.upper,
-        t1.lower,
-        t1.low,
-        t2.top,
-        t2.upper,
-        t2.lower,
-        t2.low,
-        t3.top,
-        t3.upper,
-        t3.lower,
-        t3.low,
-        l1.top,
-        l1.upper,
-        l1.lower,
-        l1.low,
-        l2.top,
-        l2.upper,
-        l2.lower,
-        l2.low,
-        l3.top,
-        l3.upper,
-        l3.lower,
-        l3.low,
-    ]
+    let front = [a.code, a.value, a.a, a.b, a.c, a.int as u8, a.ieo as u8];
+    let mut b = [0; ANSWER];
+    basics::lay(&mut b, 0, &front);
+    basics::lay(&mut b, 7, &count(a.report.terminals[0]));
+    basics::lay(&mut b, 11, &count(a.report.terminals[1]));
+    basics::lay(&mut b, 15, &count(a.report.terminals[2]));
+    basics::lay(&mut b, 19, &count(a.report.lost[0]));
+    basics::lay(&mut b, 23, &count(a.report.lost[1]));
+    basics::lay(&mut b, 27, &count(a.report.lost[2]));
+    b
 }
 
 #[tactic(auto, unfolding(crate::specs::Bytes::ctc_bytes))]
 pub(crate) fn ctc(a: CtcAnswer) -> [u8; CTC]
     ensures { result ≡ ctc_bytes a }
 {
-    let zeros = a.zeros;
-    let z0 = count(zeros[0]);
-    let z1 = count(zeros[1]);
-    let z2 = count(zeros[2]);
-    let z3 = count(zeros[3]);
-    [
-        a.code,
-        a.value,
-        a.levels,
-        a.int as u8,
-        a.ieo as u8,
-        z0.top,
-        z0.upper,
-        z0.lower,
-        z0.low,
-        z1.top,
-        z1.upper,
-        z1.lower,
-        z1.low,
-        z2.top,
-        z2.upper,
-        z2.lower,
-        z2.low,
-        z3.top,
-        z3.upper,
-        z3.lower,
-        z3.low,
-    ]
+    let front = [a.code, a.value, a.levels, a.int as u8, a.ieo as u8];
+    let mut b = [0; CTC];
+    basics::lay(&mut b, 0, &front);
+    basics::lay(&mut b, 5, &count(a.zeros[0]));
+    basics::lay(&mut b, 9, &count(a.zeros[1]));
+    basics::lay(&mut b, 13, &count(a.zeros[2]));
+    basics::lay(&mut b, 17, &count(a.zeros[3]));
+    b
 }
 
 #[tactic(auto, unfolding(crate::specs::Bytes::line_bytes))]

@@ -1,5 +1,6 @@
 // What a host in C, Rust or another language links: the calls of `host` under their own names, by the C calling convention, with the same
 // promises. hosts/wolfscarer.h declares them. A slice is a pointer and then a length.
+// Stays: each is its twin in `host` once more, since C links a name of its own by the C calling convention, and Rust calls those of `host`.
 #![tactic(auto)]
 
 ghost use Rattle.std.specs.Prelude.{◌≡◌};
