@@ -14,7 +14,7 @@ use Rattle.rules.specs.declared.Event.{Event}
 use Rattle.texts.specs.declared.Text.{Text}
 use Rattle.texts.proofs.Keeping.{some-kept}
 use Rattle.lines.proofs.Saying.{says-line}
-use Rattle.texts.proofs.Typing.{typed-append}
+use Rattle.texts.proofs.Typing.{typed_append}
 
 -- ---- two pieces are one
 pub kept_append : (t : Text) (p q : List ℕ) → kept_after t (p ++ q) ≡ kept_after (kept_after t p) q
@@ -76,7 +76,7 @@ from-line w (b ∷ rest) = by-feed (b == line_feed) (from-line [] rest) (from-li
     by-feed true at-feed in-line =
         ap (λ (l : Option Event). l ∷ (said_in no_text rest ++ said_last (kept_after no_text rest))) (says-line w) ∙ ap (λ (ls : List (Option Event)). line_of w ∷ ls) at-feed
     by-feed false at-feed in-line =
-        ap (λ (u : Text). said_in u rest ++ said_last (kept_after u rest)) (sym (typed-append no_text w (b ∷ []))) ∙ in-line
+        ap (λ (u : Text). said_in u rest ++ said_last (kept_after u rest)) (sym (typed_append no_text w (b ∷ []))) ∙ in-line
 
 pub said-lines : (ps : List (List ℕ)) → said_all no_text ps ≡ map line_of (input_lines (input_of ps))
 unfolding typed

@@ -6,7 +6,7 @@ use mathlib.Core.Path.{◌≡◌, refl}
 use Rattle.texts.specs.Kept.{pushed, typed}
 use Rattle.texts.specs.declared.Text.{Text}
 
-pub typed-append : (t : Text) (v w : List ℕ) → typed t (v ++ w) ≡ typed (typed t v) w
+pub typed_append : (t : Text) (v w : List ℕ) → typed t (v ++ w) ≡ typed (typed t v) w
 unfolding typed
-typed-append t [] w = refl
-typed-append t (b ∷ v) w = typed-append (pushed t b) v w
+typed_append t [] w = refl
+typed_append t (b ∷ v) w = typed_append (pushed t b) v w

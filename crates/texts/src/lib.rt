@@ -5,8 +5,7 @@ mod answers;
 mod kept;
 mod written;
 
-pub use answers::{answer_text, decimal, glyph, levels, write_answer};
-pub use kept::{no_text, push};
+pub use answers::{answer_text, glyph, write_answer};
 
 // The room of a text: any answer fits, and so does any line that paper 01 lets a trace have.
 pub const ROOM: usize = 96;
