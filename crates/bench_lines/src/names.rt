@@ -11,7 +11,7 @@ use texts::Text;
 pub fn field_name(place: usize) -> Text
     ensures { result ≡ typed no_text (name_of place) }
 {
-    let t = texts::no_text();
+    let t = Text::new();
     match place {
         0 => word(t, b"code"),
         1 => word(t, b"value"),

@@ -5,26 +5,14 @@ ghost use Rattle.ctc_lines.specs.Lines.{ends_service, outcome_kept};
 
 use ctc_rules::{Ctc, CtcAnswer};
 use rules::Outcome;
-use texts::{ROOM, Text};
-
-#[tactic(auto, unfolding(crate::specs::Lines::ends_service))]
-fn is_end(s: &[u8]) -> bool
-    ensures { result ≡ ends_service s.now }
-{
-    (s.len() == 1) & (basics::byte_at(s, 0) == b'I')
-}
+use texts::Text;
 
 // Whether a line that is kept is the letter I alone; one that found no room is not.
 #[tactic(auto, unfolding(texts::specs::Kept::bytes_of, texts::specs::Kept::kept_len, crate::specs::Lines::ends_service))]
 fn ends_service(t: Text) -> bool
     ensures { result ≡ ends_service (bytes_of t) }
 {
-    let n = t.len;
-    if ROOM < n {
-        return false;
-    }
-    let b = t.bytes;
-    is_end(&b[..n])
+    matches!(t.bytes.get(..t.len), Some([b'I']))
 }
 
 // Says a line that is kept to the device.

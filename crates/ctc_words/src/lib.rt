@@ -9,7 +9,7 @@ ghost use Rattle.ctc_words.specs.Shown.{channels_line, device_line, shown_ctc};
 
 use ctc_rules::Ctc;
 use phrases::word;
-use texts::{Text, glyph, push};
+use texts::{Text, glyph};
 
 pub const LINES: usize = 14;
 
@@ -22,7 +22,7 @@ fn channels_line(d: Ctc, row: usize) -> Text
     for c in &d.channels {
         t = cells::channel(t, *c, row);
     }
-    push(t, b'\n')
+    t.push(b'\n')
 }
 
 // What the device has beside its channels.
@@ -30,11 +30,11 @@ fn channels_line(d: Ctc, row: usize) -> Text
 fn device_line(d: Ctc) -> Text
     ensures { result ≡ typed no_text (device_line d) }
 {
-    let t = word(texts::no_text(), b"device          vector ");
-    let vector = push(push(t, glyph(d.vector / 16)), glyph(d.vector));
-    let levels = push(word(vector, b"  levels "), glyph(d.levels));
-    let iei = push(word(levels, b"  IEI "), glyph(basics::weight(d.iei, 1)));
-    push(iei, b'\n')
+    let t = word(Text::new(), b"device          vector ");
+    let vector = t.push(glyph(d.vector / 16)).push(glyph(d.vector));
+    let levels = word(vector, b"  levels ").push(glyph(d.levels));
+    let iei = word(levels, b"  IEI ").push(glyph(basics::weight(d.iei, 1)));
+    iei.push(b'\n')
 }
 
 // Line n of a device, with its line feed.
@@ -44,7 +44,7 @@ pub fn line(d: Ctc, n: usize) -> Text
 {
     match n {
         0 => word(
-            texts::no_text(),
+            Text::new(),
             b"channel                    0           1           2           3\n",
         ),
         1..13 => channels_line(d, n - 1),

@@ -29,7 +29,7 @@ pub fn start() -> Reader
     ensures { result ≡ unread }
 {
     Reader {
-        text: texts::no_text(),
+        text: Text::new(),
         at: 0,
         end: 0,
     }
@@ -54,7 +54,7 @@ fn handed(r: Reader, c: Cut) -> Next
     if c.whole {
         return Next {
             reader: Reader {
-                text: texts::no_text(),
+                text: Text::new(),
                 at: c.next,
                 end: r.end,
             },

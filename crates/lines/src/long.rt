@@ -3,7 +3,7 @@ ghost use Rattle.std.specs.Prelude.{◌≡◌, drop};
 ghost use Rattle.lines.specs.Pieces.{cut_from};
 
 use crate::Cut;
-use texts::{Text, push};
+use texts::Text;
 
 // From a place in a piece to the end of a line, with room or without: byte by byte.
 pub(crate) fn cut_long(t: Text, piece: &[u8], at: usize) -> Cut
@@ -20,7 +20,7 @@ pub(crate) fn cut_long(t: Text, piece: &[u8], at: usize) -> Cut
                 whole: true,
             };
         }
-        u = push(u, b);
+        u = u.push(b);
         i += 1;
     }
     Cut {

@@ -7,7 +7,7 @@ ghost use Rattle.texts.specs.Kept.{typed};
 mod refusals;
 
 pub use refusals::{Trouble, refusal_line, trouble_line};
-use texts::{Text, push};
+use texts::Text;
 
 #[tactic(auto, unfolding(texts::specs::Kept::typed), using(std::proofs::lemmas::List::at_drop_more, std::proofs::lemmas::List::at_drop_all))]
 pub fn word(t: Text, w: &[u8]) -> Text
@@ -15,7 +15,7 @@ pub fn word(t: Text, w: &[u8]) -> Text
 {
     let mut u = t;
     for b in w {
-        u = push(u, *b);
+        u = u.push(*b);
     }
     u
 }

@@ -10,7 +10,7 @@ use texts::Text;
 fn side(whole: u32, n: usize) -> Text
     ensures { result ≡ typed no_text (side_of whole n) }
 {
-    let t = texts::no_text();
+    let t = Text::new();
     if (whole as usize) < n {
         return word(t, b": refused 7 (over ");
     }
@@ -21,7 +21,7 @@ fn side(whole: u32, n: usize) -> Text
 fn not_whole(whole: u32, n: usize) -> Text
     ensures { result ≡ typed no_text (not_whole whole n) }
 {
-    let t = texts::decimal(side(whole, n), whole);
+    let t = side(whole, n).decimal(whole);
     word(t, b" bytes)\n")
 }
 
@@ -32,8 +32,8 @@ pub fn refusal_line(code: u8, whole: u32, n: usize) -> Text
 {
     match code {
         7 => not_whole(whole, n),
-        8 => word(texts::no_text(), b": refused 8 (contents differ)\n"),
-        _ => word(texts::no_text(), b": refused 9 (bodies unsound)\n"),
+        8 => word(Text::new(), b": refused 8 (contents differ)\n"),
+        _ => word(Text::new(), b": refused 9 (bodies unsound)\n"),
     }
 }
 
@@ -41,7 +41,7 @@ pub fn refusal_line(code: u8, whole: u32, n: usize) -> Text
 fn attempt(writing: bool) -> Text
     ensures { result ≡ typed no_text (attempt_of writing) }
 {
-    let t = texts::no_text();
+    let t = Text::new();
     if writing {
         return word(t, b": cannot be written: ");
     }

@@ -62,7 +62,7 @@ use Rattle.theorems.specs.Moving.{pair_of, paired_by}
 use Rattle.theorems.specs.Used.{of}
 use Rattle.step.specs.Parts.{pattern_by}
 use Rattle.step.specs.Still.{has_caught}
-use Rattle.texts.specs.Answers.{answer_text, decimal_text, glyph_of, levels_text}
+use Rattle.texts.specs.Answers.{answer_text, count_text, decimal_text, flag_text, glyph_of, hex_text, levels_text, nibble_text}
 use Rattle.texts.specs.Kept.{no_text, pushed, typed}
 use Rattle.words.specs.Cells.{bit_cell, yes_cell, number_cell}
 use Rattle.words.specs.Shown.{pointer_line, shown_line}
@@ -102,7 +102,7 @@ use Rattle.row_bridge.specs.contracts.event as row-bridge·event
 use Rattle.row_lines.specs.contracts.event_of_line as row-lines·event-of-line
 use Rattle.row_lines.specs.contracts.head_text as row-lines·head-text
 use Rattle.row_lines.specs.contracts.device_text as row-lines·device-text
-use Rattle.texts.specs.contracts.levels as texts·levels
+use Rattle.texts.specs.contracts.Text.levels as texts·Text-levels
 use Rattle.image.specs.contracts.save as image·save
 use Rattle.image.specs.contracts.restore as image·restore
 use Rattle.image.specs.contracts.Restored.of as image·Restored-of
@@ -253,11 +253,15 @@ use Rattle.step.specs.contracts.side as step·side
 use Rattle.step.specs.contracts.has_caught as step·has-caught
 use Rattle.step.specs.contracts.untimed as step·untimed
 use Rattle.texts.specs.contracts.glyph as texts·glyph
-use Rattle.texts.specs.contracts.decimal as texts·decimal
+use Rattle.texts.specs.contracts.Text.decimal as texts·Text-decimal
+use Rattle.texts.specs.contracts.Text.hex as texts·Text-hex
+use Rattle.texts.specs.contracts.Text.nibble as texts·Text-nibble
+use Rattle.texts.specs.contracts.Text.flag as texts·Text-flag
+use Rattle.texts.specs.contracts.Text.count as texts·Text-count
 use Rattle.texts.specs.contracts.answer_text as texts·answer-text
 use Rattle.texts.specs.contracts.write_answer as texts·write-answer
-use Rattle.texts.specs.contracts.no_text as texts·no-text
-use Rattle.texts.specs.contracts.push as texts·push
+use Rattle.texts.specs.contracts.Text.new as texts·Text-new
+use Rattle.texts.specs.contracts.Text.push as texts·Text-push
 use Rattle.write_access.specs.contracts.write as write-access·write
 use mir.Syntax.{Dict}
 use denote.RattleType.{RattleType}
@@ -340,8 +344,8 @@ module _ {M : Type 1} (𝓤 : Ura M) where
   pub row-lines-device-text : OneResult 𝓤 row-lines·device-text.ended row-lines·device-text.clauses
   row-lines-device-text = one-result 𝓤 row-lines·device-text.ended row-lines·device-text.clauses (λ κs a. typed no_text (device_text a.0)) refl
 
-  pub texts-levels : OneResult 𝓤 texts·levels.ended texts·levels.clauses
-  texts-levels = one-result 𝓤 texts·levels.ended texts·levels.clauses (λ κs a. typed a.0 (levels_text a.1.0)) refl
+  pub texts-Text-levels : OneResult 𝓤 texts·Text-levels.ended texts·Text-levels.clauses
+  texts-Text-levels = one-result 𝓤 texts·Text-levels.ended texts·Text-levels.clauses (λ κs a. typed a.0 (levels_text a.1.0)) refl
 
   pub image-save : OneAnswer 𝓤 image·save.ended image·save.clauses (λ κs. Result Unit Refusal × List ℕ) (λ κs r x. (r, x.1.0.now))
   image-save =
@@ -899,8 +903,20 @@ module _ {M : Type 1} (𝓤 : Ura M) where
   pub texts-glyph : OneResult 𝓤 texts·glyph.ended texts·glyph.clauses
   texts-glyph = one-result 𝓤 texts·glyph.ended texts·glyph.clauses (λ κs a. glyph_of a.0) refl
 
-  pub texts-decimal : OneResult 𝓤 texts·decimal.ended texts·decimal.clauses
-  texts-decimal = one-result 𝓤 texts·decimal.ended texts·decimal.clauses (λ κs a. typed a.0 (decimal_text a.1.0)) refl
+  pub texts-Text-decimal : OneResult 𝓤 texts·Text-decimal.ended texts·Text-decimal.clauses
+  texts-Text-decimal = one-result 𝓤 texts·Text-decimal.ended texts·Text-decimal.clauses (λ κs a. typed a.0 (decimal_text a.1.0)) refl
+
+  pub texts-Text-hex : OneResult 𝓤 texts·Text-hex.ended texts·Text-hex.clauses
+  texts-Text-hex = one-result 𝓤 texts·Text-hex.ended texts·Text-hex.clauses (λ κs a. typed a.0 (hex_text a.1.0)) refl
+
+  pub texts-Text-nibble : OneResult 𝓤 texts·Text-nibble.ended texts·Text-nibble.clauses
+  texts-Text-nibble = one-result 𝓤 texts·Text-nibble.ended texts·Text-nibble.clauses (λ κs a. typed a.0 (nibble_text a.1.0)) refl
+
+  pub texts-Text-flag : OneResult 𝓤 texts·Text-flag.ended texts·Text-flag.clauses
+  texts-Text-flag = one-result 𝓤 texts·Text-flag.ended texts·Text-flag.clauses (λ κs a. typed a.0 (flag_text a.1.0)) refl
+
+  pub texts-Text-count : OneResult 𝓤 texts·Text-count.ended texts·Text-count.clauses
+  texts-Text-count = one-result 𝓤 texts·Text-count.ended texts·Text-count.clauses (λ κs a. typed a.0 (count_text a.1.0)) refl
 
   pub texts-answer-text : OneResult 𝓤 texts·answer-text.ended texts·answer-text.clauses
   texts-answer-text = one-result 𝓤 texts·answer-text.ended texts·answer-text.clauses (λ κs a. typed no_text (answer_text a.0)) refl
@@ -911,11 +927,11 @@ module _ {M : Type 1} (𝓤 : Ura M) where
       (λ κs a. (cond (fits a.1.0.now a.1.1.0 (answer_text a.0)) (a.1.1.0 + length (answer_text a.0)) a.1.1.0, laid_of a.1.0.now a.1.1.0 (answer_text a.0)))
       (λ 𝓛 at_mem run κs a g r x. fact_mono 𝓤 _ _ (λ p i. (p.1 i, p.0 i)))
 
-  pub texts-no-text : OneResult 𝓤 texts·no-text.ended texts·no-text.clauses
-  texts-no-text = one-result 𝓤 texts·no-text.ended texts·no-text.clauses (λ κs a. no_text) refl
+  pub texts-Text-new : OneResult 𝓤 texts·Text-new.ended texts·Text-new.clauses
+  texts-Text-new = one-result 𝓤 texts·Text-new.ended texts·Text-new.clauses (λ κs a. no_text) refl
 
-  pub texts-push : OneResult 𝓤 texts·push.ended texts·push.clauses
-  texts-push = one-result 𝓤 texts·push.ended texts·push.clauses (λ κs a. pushed a.0 a.1.0) refl
+  pub texts-Text-push : OneResult 𝓤 texts·Text-push.ended texts·Text-push.clauses
+  texts-Text-push = one-result 𝓤 texts·Text-push.ended texts·Text-push.clauses (λ κs a. pushed a.0 a.1.0) refl
 
   pub write-access-write : OneResult 𝓤 write-access·write.ended write-access·write.clauses
   write-access-write =

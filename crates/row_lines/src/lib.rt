@@ -81,7 +81,7 @@ fn digit(b: u8) -> u32
 fn rest(s: &[u8]) -> Text
     ensures { result ≡ (cut_from no_text 2 (drop 2 s.now)).text }
 {
-    let c = lines::cut_from(texts::no_text(), s, 2);
+    let c = lines::cut_from(Text::new(), s, 2);
     let t = c.text;
     t
 }
@@ -114,24 +114,18 @@ pub fn event_of_line(t: Text) -> RowEvent
     said(&b[..n], t)
 }
 
-// The code and the value of an answer: a space and two digits, after the code.
-#[tactic(auto, unfolding(crate::specs::RowLines::head_text, texts::specs::Kept::typed, texts::specs::Answers::hex_text))]
+// The code and the value of an answer.
+#[tactic(auto, unfolding(crate::specs::RowLines::head_text), using(texts::proofs::Typing::typed_append))]
 pub fn head_text(a: RowAnswer) -> Text
     ensures { result ≡ typed no_text (head_text a) }
 {
-    let v = a.value;
-    let c = texts::decimal(texts::no_text(), a.code as u32);
-    texts::push(
-        texts::push(texts::push(c, b' '), texts::glyph(v / 16)),
-        texts::glyph(v),
-    )
+    Text::new().decimal(a.code.into()).hex(a.value)
 }
 
 // What is shown of a device, as an answer.
 fn alone(x: Shown) -> Answer
     ensures { result ≡ alone_of x }
 {
-    let report = x.report;
     Answer {
         code: 0,
         value: 0,
@@ -140,7 +134,7 @@ fn alone(x: Shown) -> Answer
         c: x.c,
         int: x.int,
         ieo: x.ieo,
-        report: report,
+        report: x.report,
     }
 }
 
@@ -149,8 +143,5 @@ fn alone(x: Shown) -> Answer
 pub fn device_text(x: Shown) -> Text
     ensures { result ≡ typed no_text (device_text x) }
 {
-    texts::levels(
-        texts::push(texts::push(texts::no_text(), b' '), b'|'),
-        alone(x),
-    )
+    Text::new().push(b' ').push(b'|').levels(alone(x))
 }

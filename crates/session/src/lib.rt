@@ -39,7 +39,7 @@ pub fn start(d: Chip) -> Session
 {
     Session {
         device: d,
-        text: texts::no_text(),
+        text: Text::new(),
     }
 }
 

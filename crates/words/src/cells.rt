@@ -6,7 +6,7 @@ ghost use Rattle.words.specs.Cells.{bit_cell, yes_cell, byte_cell, digit_or_spac
 ghost use Rattle.words.specs.Shown.{named as named_of};
 
 use phrases::word;
-use texts::{Text, glyph, push};
+use texts::{Text, glyph};
 
 // Dk of a byte.
 pub(crate) fn bit(x: u8, k: u8) -> bool
@@ -22,8 +22,8 @@ pub fn label(rows: &[[u8; 16]], row: usize) -> Text
     ensures { result ≡ typed no_text (get_or rows.now row []) }
 {
     match rows.get(row) {
-        Some(w) => word(texts::no_text(), w),
-        None => texts::no_text(),
+        Some(w) => word(Text::new(), w),
+        None => Text::new(),
     }
 }
 
@@ -33,9 +33,9 @@ pub(crate) fn named(t: Text, w: &[u8], f: bool) -> Text
 {
     let u = word(t, w);
     if f {
-        return push(u, b'1');
+        return u.push(b'1');
     }
-    push(u, b'0')
+    u.push(b'0')
 }
 
 // One of two words.
@@ -67,7 +67,7 @@ pub(crate) fn byte_cell(t: Text, n: u8) -> Text
     ensures { result ≡ typed t (byte_cell n) }
 {
     let u = word(t, b"          ");
-    push(push(u, glyph(n / 16)), glyph(n))
+    u.push(glyph(n / 16)).push(glyph(n))
 }
 
 // The digit at the place of a power of ten, or a space.
@@ -86,9 +86,9 @@ fn digit(p: u32, n: u32) -> u8
 pub fn number_cell(t: Text, n: u32) -> Text
     ensures { result ≡ typed t (number_cell n) }
 {
-    let t4 = push(word(t, b"       "), digit(10000, n));
-    let t3 = push(t4, digit(1000, n));
-    let t2 = push(t3, digit(100, n));
-    let t1 = push(t2, digit(10, n));
-    push(t1, b'0' + (n % 10) as u8)
+    let t4 = word(t, b"       ").push(digit(10000, n));
+    let t3 = t4.push(digit(1000, n));
+    let t2 = t3.push(digit(100, n));
+    let t1 = t2.push(digit(10, n));
+    t1.push(b'0' + (n % 10) as u8)
 }

@@ -7,7 +7,7 @@ use crate::cells::{bit, bit_cell, either, label, number_cell, yes_cell};
 use basics::Place;
 use phrases::word;
 use rules::{Counter, Device};
-use texts::{Text, push};
+use texts::Text;
 
 // The bits of a mode.
 const CONTINUOUS: u8 = 7;
@@ -122,5 +122,5 @@ pub(crate) fn counter_line(d: Device, row: usize) -> Text
     for at in 0..3 {
         t = counter_column(t, d, Place { at }, row);
     }
-    push(t, b'\n')
+    t.push(b'\n')
 }

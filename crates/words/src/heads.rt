@@ -6,7 +6,7 @@ ghost use Rattle.words.specs.Shown.{pointer_line, version_line, master_line, lin
 use crate::cells::{bit, byte_cell, named};
 use phrases::word;
 use rules::Device;
-use texts::{Text, push};
+use texts::Text;
 
 // The bits of the master interrupt register.
 const MIE: u8 = 7;
@@ -29,7 +29,7 @@ const RESET: u8 = 0;
 pub(crate) fn version_line(version: u8) -> Text
     ensures { result ≡ typed no_text (version_line version) }
 {
-    let t = texts::no_text();
+    let t = Text::new();
     if version == 1 {
         return word(t, b"version         1\n");
     }
@@ -41,22 +41,22 @@ pub(crate) fn version_line(version: u8) -> Text
 pub fn pointer_line(pointer: u8, pointed: bool) -> Text
     ensures { result ≡ typed no_text (pointer_line pointer pointed) }
 {
-    let t = byte_cell(word(texts::no_text(), b"Z8536 pointer   "), pointer);
-    push(named(t, b"  state ", pointed), b'\n')
+    let t = byte_cell(word(Text::new(), b"Z8536 pointer   "), pointer);
+    named(t, b"  state ", pointed).push(b'\n')
 }
 
 #[tactic(auto, unfolding(crate::specs::Shown::master_line, texts::specs::Spelled::spelled))]
 pub(crate) fn master_line(m: u8) -> Text
     ensures { result ≡ typed no_text (master_line m) }
 {
-    let mie = named(texts::no_text(), b"master          MIE ", bit(m, MIE));
+    let mie = named(Text::new(), b"master          MIE ", bit(m, MIE));
     let dlc = named(mie, b"  DLC ", bit(m, DLC));
     let nv = named(dlc, b"  NV ", bit(m, NV));
     let vis_a = named(nv, b"  VIS A ", bit(m, VIS_A));
     let vis_b = named(vis_a, b"  VIS B ", bit(m, VIS_B));
     let vis_ct = named(vis_b, b"  VIS CT ", bit(m, VIS_CT));
     let rja = named(vis_ct, b"  RJA ", bit(m, RJA));
-    push(named(rja, b"  RESET ", bit(m, RESET)), b'\n')
+    named(rja, b"  RESET ", bit(m, RESET)).push(b'\n')
 }
 
 // What LC makes of CT1's output.
@@ -64,7 +64,7 @@ pub(crate) fn master_line(m: u8) -> Text
 pub(crate) fn link_line(lc: u8) -> Text
     ensures { result ≡ typed no_text (link_line lc) }
 {
-    let t = texts::no_text();
+    let t = Text::new();
     match lc {
         0 => word(t, b"CT1's output    is not linked to CT2\n"),
         1 => word(t, b"CT1's output    gates CT2\n"),
@@ -77,10 +77,10 @@ pub(crate) fn link_line(lc: u8) -> Text
 pub(crate) fn levels_line(d: Device) -> Text
     ensures { result ≡ typed no_text (levels_line d) }
 {
-    let t1 = named(texts::no_text(), b"lines           INT ", d.lines.int);
+    let t1 = named(Text::new(), b"lines           INT ", d.lines.int);
     let t2 = named(t1, b"  IEO ", d.lines.ieo);
     let t3 = named(t2, b"  IEI ", d.iei);
-    push(named(t3, b"  phase ", d.phase), b'\n')
+    named(t3, b"  phase ", d.phase).push(b'\n')
 }
 
 // Who requests: the place as it is stored.
@@ -88,7 +88,7 @@ pub(crate) fn levels_line(d: Device) -> Text
 pub(crate) fn request_line(k: u8) -> Text
     ensures { result ≡ typed no_text (request_line k) }
 {
-    let t = texts::no_text();
+    let t = Text::new();
     match k {
         1 => word(t, b"requesting      place 1, CT3\n"),
         2 => word(t, b"requesting      place 2, port A\n"),
@@ -103,9 +103,9 @@ pub(crate) fn request_line(k: u8) -> Text
 pub(crate) fn acknowledge_line(d: Device) -> Text
     ensures { result ≡ typed no_text (acknowledge_line d) }
 {
-    let t = word(texts::no_text(), b"K would give    ");
+    let t = word(Text::new(), b"K would give    ");
     if interrupts::requester_of(d) < 5 {
-        return push(byte_cell(t, interrupts::acknowledge(d)), b'\n');
+        return byte_cell(t, interrupts::acknowledge(d)).push(b'\n');
     }
     word(t, b"code 6\n")
 }

@@ -12,7 +12,7 @@ use crate::cells::{bit_cell, byte_cell, label, number_cell, yes_cell};
 use basics::Place;
 use phrases::word;
 use rules::{Device, Transfer};
-use texts::{Text, push};
+use texts::Text;
 
 // How many facts a port has, a pattern, and what a handshake holds.
 pub const PORT_ROWS: usize = 7;
@@ -55,7 +55,7 @@ pub(crate) fn port_line(d: Device, row: usize) -> Text
     for at in 0..3 {
         t = port_cell(t, d, Place { at }, row);
     }
-    push(t, b'\n')
+    t.push(b'\n')
 }
 
 const PATTERN_LABELS: [[u8; 16]; PATTERN_ROWS] = [
@@ -76,9 +76,9 @@ fn priority_mode(t: Text, d: Device, p: Place<2>) -> Text
     let seen = levels::seen_at(d, p.index());
     let u = word(t, b"  priority ");
     if step::matches(enabled, q, seen, seen) {
-        return push(u, b'0' + ports::highest(enabled, q, seen));
+        return u.push(b'0' + ports::highest(enabled, q, seen));
     }
-    push(u, b'-')
+    u.push(b'-')
 }
 
 #[tactic(auto, unfolding(crate::specs::Shown::pattern_mode, texts::specs::Spelled::spelled))]
@@ -115,7 +115,7 @@ pub(crate) fn pattern_line(d: Device, row: usize) -> Text
     for at in 0..2 {
         t = pattern_cell(t, d, Place { at }, row);
     }
-    push(t, b'\n')
+    t.push(b'\n')
 }
 
 const TRANSFER_LABELS: [[u8; 16]; TRANSFER_ROWS] = [
@@ -147,5 +147,5 @@ pub(crate) fn transfer_line(d: Device, row: usize) -> Text
     for h in &d.transfers {
         t = transfer_cell(t, *h, row);
     }
-    push(t, b'\n')
+    t.push(b'\n')
 }

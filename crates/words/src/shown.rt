@@ -44,7 +44,7 @@ fn head_line(d: Device, n: usize) -> Text
         1 => master_line(d.master),
         2 => link_line(d.config % 4),
         _ => word(
-            texts::no_text(),
+            Text::new(),
             b"port                       A           B           C\n",
         ),
     }
@@ -73,12 +73,12 @@ pub fn line(d: Device, n: usize) -> Text
         PATTERNS..TRANSFERS => pattern_line(d, n - PATTERNS),
         TRANSFERS..COUNTER_HEAD => transfer_line(d, n - TRANSFERS),
         COUNTER_HEAD => word(
-            texts::no_text(),
+            Text::new(),
             b"counter                  CT1         CT2         CT3\n",
         ),
         COUNTERS..SOURCE_HEAD => counter_line(d, n - COUNTERS),
         SOURCE_HEAD => word(
-            texts::no_text(),
+            Text::new(),
             b"source                   CT3           A         CT2           B         CT1\n",
         ),
         SOURCES..TAIL => source_line(d, n - SOURCES),

@@ -6,7 +6,7 @@ ghost use Rattle.words.specs.Shown.{source_cell, source_line};
 use crate::cells::{bit_cell, label};
 use phrases::word;
 use rules::{Device, Source};
-use texts::{Text, push};
+use texts::Text;
 
 // How many facts a source has.
 pub const ROWS: usize = 5;
@@ -35,5 +35,5 @@ pub(crate) fn source_line(d: Device, row: usize) -> Text
     for s in &d.sources {
         t = source_cell(t, *s, row);
     }
-    push(t, b'\n')
+    t.push(b'\n')
 }

@@ -1,4 +1,4 @@
-use Rattle.texts.proofs.Typing.{typed-append}
+use Rattle.texts.proofs.Typing.{typed_append}
 use Rattle.texts.specs.Spelled.{spelled}
 use Rattle.phrases.specs.Refusals.{not_whole}
 use Rattle.phrases.proofs.refusals.not_whole.Goals as goal
@@ -6,4 +6,4 @@ use Rattle.phrases.proofs.refusals.not_whole.Goals as goal
 pub returns : goal.returns
 unfolding not_whole spelled
 returns c =
-    simp (typed-append, c.word.ensures, c.decimal-t.ensures, c.side.ensures)
+    simp (typed_append, c.word.ensures, c.decimal-t.ensures, c.side.ensures)

@@ -7,7 +7,7 @@ use Rattle.words.proofs.heads.master_line.Goals as goal
 pub returns : goal.returns
 unfolding master_line spelled
 returns c =
-    let l0 = begun _ c.no_text.ensures c.named-mie.ensures in
+    let l0 = begun _ c.new.ensures c.named-mie.ensures in
     let l1 = more _ _ l0 c.named-dlc.ensures in
     let l2 = more _ _ l1 c.named-nv.ensures in
     let l3 = more _ _ l2 c.named-vis_a.ensures in
