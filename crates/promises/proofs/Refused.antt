@@ -1,7 +1,7 @@
 -- A call that is told by name why it is refused: the code leaves one answer.
 -- Assumes nothing.
 use Prim.Native.Nat.{ℕ}
-use mathlib.Core.Path.{◌≡◌, refl, sym, ap, ◌∙◌}
+use mathlib.Core.Path.{◌≡◌, refl, ap, ◌∙◌}
 use Rattle.std.specs.Prelude.{Result, Ok, Err, if◌then◌else◌, ◌==◌}
 use Rattle.rules.specs.declared.refusal.Refusal.{Refusal}
 use Rattle.rules.specs.declared.refusal.Refusal.TheVariants.{Unknown, NoRegister, ReadOnly, Later, TooLarge, NoRequester, Length, Contents, Unsound, NoRoom, NoByte, TooLong, NoDevice}
