@@ -18,7 +18,7 @@ use Rattle.texts.specs.Answers.{space, line_feed}
 use Rattle.lines.specs.Lines.{digit_of}
 use Rattle.lines.specs.Pieces.{feed_at}
 use Rattle.bench_lines.specs.Agreed.{agreed_to}
-use Rattle.bench_lines.specs.Compared.{field_count, answer_numbers, readable_at, readable_line, differs_at, compared_of}
+use Rattle.bench_lines.specs.Compared.{field_count, answer_numbers, readable_at, readable_line, differs_at, compared_of, agrees}
 use Rattle.bench_lines.specs.Fields.{fields_from, fields_of, field_at, hole, unmeasured, illegible, says_at}
 use Rattle.bench_lines.specs.Walk.{Meets, After, over, next, Begins, field, Up, Agrees}
 use Rattle.bench_lines.proofs.Own.{hex_digits, free, digits-free, space-no-digit, feed-no-digit, field-ends, line-ends, Says, one}
@@ -131,8 +131,8 @@ module _ (a : Answer) (w : List ℕ) (h : Fair 0 (fields_of w) (answer_numbers a
   unfolding readable_line
   fair-readable = simp (holds-all field_count (readable_at w) (λ k l. legible _ _ (says_at_lem k)), le-leb (length (fields_of w)) field_count (fair-most h))
 
-  fair-agrees : (compared_of a w).agrees ≡ true
-  unfolding compared_of
+  fair-agrees : agrees (compared_of a w) ≡ true
+  unfolding compared_of agrees
   fair-agrees = simp fair-readable (holds-all field_count (λ k. not (differs_at (answer_numbers a) w k)) (λ k l. same _ _ (says_at_lem k)))
 
 fair-whole : {ns : List ℕ} (w : List ℕ) → Fair 0 (fields_from [] w) ns → Fair 0 (fields_of w) ns
@@ -164,11 +164,11 @@ module _ (a : Answer) (b : List ℕ) (at e : ℕ) (f : e ≡ at + feed_at (drop 
   ends : e < length b → ltb (feed_at (drop at b)) (length (drop at b)) ≡ true
   ends h = lt-ltb (feed_at (drop at b)) (length (drop at b)) (omega (arith, length-drop at b))
 
-  pub agreed-by : e < length b → (compared_of a (take (e - at) (drop at b))).agrees ≡ true → e + 1 ≡ agreed_to a b at
+  pub agreed-by : e < length b → agrees (compared_of a (take (e - at) (drop at b))) ≡ true → e + 1 ≡ agreed_to a b at
   unfolding agreed_to
   agreed-by h g = simp (ends h, taken, g) (omega arith)
 
-  pub not-agreed : e < length b → (compared_of a (take (e - at) (drop at b))).agrees ≡ false → at ≡ agreed_to a b at
+  pub not-agreed : e < length b → agrees (compared_of a (take (e - at) (drop at b))) ≡ false → at ≡ agreed_to a b at
   unfolding agreed_to
   not-agreed h g = simp (ends h, taken, g)
 

@@ -19,7 +19,7 @@ use Rattle.lines.specs.Lines.{digit_of, all_decimal, value_of, clocks_in, no_lea
 use Rattle.lines.proofs.Back.{digit-back, clocks-back, decimal-plain}
 use Rattle.bench_lines.specs.Places.{holds_up_to}
 use Rattle.bench_lines.specs.Fields.{fields_from, fields_of, field_at, hole, unmeasured, illegible, is_hole, decimal_in, pair_in, nibble_in, number_at, says_at}
-use Rattle.bench_lines.specs.Compared.{field_count, answer_numbers, readable_at, readable_line, differs_at, compared_of}
+use Rattle.bench_lines.specs.Compared.{field_count, answer_numbers, readable_at, readable_line, differs_at, compared_of, agrees}
 
 -- ---- fields of digits
 -- each byte is a hexadecimal digit
@@ -301,8 +301,8 @@ module _ (a : Answer) (r : Ranged a) where
       )
 
   -- and so each field says the answer's number
-  pub own-agrees : (compared_of a (printed a)).agrees ≡ true
-  unfolding compared_of
+  pub own-agrees : agrees (compared_of a (printed a)) ≡ true
+  unfolding compared_of agrees
   own-agrees =
       simp own-readable
       (holds-all field_count (λ k. not (differs_at (answer_numbers a) (printed a) k)) (λ k h. same_number (not (says_at k (field_at (printed a) k) == unmeasured)) _ (eq-eqb _ _ (own_at k h).0)))

@@ -1,7 +1,7 @@
 -- An answer and a line of BOARD: which fields differ. "The bench": "The comparison of an answer with a line of BOARD is a proved function
 -- on slices, defined in specs: which fields differ, exactly."
 -- Assumes nothing.
-use Rattle.std.specs.Prelude.{ℕ, ◌%◌, Bool, true, false, ◌&&◌, not, List, [], ◌∷◌, leb, ltb, length, take, get_or, replicate, if◌then◌else◌, ◌==◌}
+use Rattle.std.specs.Prelude.{ℕ, ◌%◌, Bool, false, ◌&&◌, not, Option, Some, None, List, [], ◌∷◌, leb, ltb, length, take, get_or, if◌then◌else◌, ◌==◌}
 use Rattle.basics.specs.Byte.{num}
 use Rattle.rules.specs.declared.Answer.{Answer}
 use Rattle.texts.specs.Kept.{text_room}
@@ -30,23 +30,27 @@ unfoldable pub readable_line : List ℕ → Bool
 readable_line w = holds_up_to field_count (readable_at w) && leb (length (fields_of w)) field_count
 
 -- a field differs where it is measured, and is not the answer's, whose numbers are ns
+abbrev pub differs_by : ℕ → ℕ → Bool
+differs_by n says = not (says == unmeasured) && not (says == n)
+
 abbrev pub differs_at : List ℕ → List ℕ → ℕ → Bool
-differs_at ns w i = not (says_at i (field_at w i) == unmeasured) && not (says_at i (field_at w i) == get_or ns i 0)
+differs_at ns w i = differs_by (get_or ns i 0) (says_at i (field_at w i))
 
 -- ---- the comparison; of a line that is not readable nothing is said
-unfoldable pub not_read : Compared
-not_read = record { readable = false; agrees = false; differs = replicate field_count false }
-
-unfoldable pub compared_of : Answer → List ℕ → Compared
+unfoldable pub compared_of : Answer → List ℕ → Option Compared
 compared_of a w =
     if readable_line w
-    then record {
-      readable = true;
+    then Some (record {
       agrees = holds_up_to field_count (λ i. not (differs_at (answer_numbers a) w i));
       differs = listed_up_to field_count (differs_at (answer_numbers a) w);
-    }
-    else not_read
+    })
+    else None
 
 -- a line of BOARD as it is kept; one that found no room is longer than any answer
-unfoldable pub compared_kept : Answer → Text → Compared
-compared_kept a t = if ltb text_room t.len then not_read else compared_of a (take t.len t.bytes)
+unfoldable pub compared_kept : Answer → Text → Option Compared
+compared_kept a t = if ltb text_room t.len then None else compared_of a (take t.len t.bytes)
+
+-- a line agrees that is readable and of which no field differs
+unfoldable pub agrees : Option Compared → Bool
+agrees None = false
+agrees (Some c) = c.agrees

@@ -186,9 +186,10 @@ fn plain(a: Answer, boards: &[u8], at: usize) -> usize
 {
     let e = lines::line_end(boards, at);
     if e < boards.len() {
-        let c = compare(a, &boards[at..e]);
-        if c.agrees {
-            return e + 1;
+        if let Some(c) = compare(a, &boards[at..e]) {
+            if c.agrees {
+                return e + 1;
+            }
         }
     }
     at

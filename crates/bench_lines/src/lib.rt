@@ -13,10 +13,9 @@ pub use names::field_name;
 // How many fields an answer has.
 pub const FIELDS: usize = 13;
 
-// A line beside an answer: whether it is readable, whether no field differs, and which do.
+// A line that is readable, beside an answer: whether no field differs, and which do.
 #[derive(Clone, Copy)]
 pub struct Compared {
-    pub readable: bool,
     pub agrees: bool,
     pub differs: [bool; FIELDS],
 }

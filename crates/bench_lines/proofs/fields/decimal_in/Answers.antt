@@ -1,9 +1,9 @@
 use mathlib.Core.Path.{◌≡◌, sym, ◌∙◌}
 use native.Mathlib.Omega.{arith}
 use Prim.Native.Nat.{◌≤◌}
+use borrow.Author.Tests.{le-leb}
 use Rattle.lines.specs.Lines.{clocks_in}
 use Rattle.lines.proofs.Tests.{is_below}
-use borrow.Author.Tests.{le-leb}
 use Rattle.bench_lines.specs.Fields.{decimal_in}
 use Rattle.bench_lines.proofs.Plain.{none-plain, plain_by}
 use Rattle.bench_lines.proofs.fields.decimal_in.Goals as goal
@@ -21,7 +21,6 @@ pub returns : goal.returns
 unfolding decimal_in
 returns c =
     let f = c.args.f.now in
-    let e : c.in-Some.d ≡ clocks_in f = (is_below 4294967296 _ c.in-Some.ensures).0 in
+    let e : c.in_ok-d.d ≡ clocks_in f = (is_below 4294967296 _ (sym c.in_ok-d.was ∙ c.decimal.ensures)).0 in
     let h : clocks_in f ≤ c.args.most = omega arith in
-    c.into.ensures ∙ e
-    ∙ sym (simp (plain_by f c.if-n-eq0.false, c.if-f-n.false, le-leb _ _ h))
+    e ∙ sym (simp (plain_by f c.if-n-eq0.false, c.if-f-n.false, le-leb _ _ h))

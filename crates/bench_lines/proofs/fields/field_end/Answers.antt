@@ -1,14 +1,19 @@
+use mathlib.Core.Path.{◌≡◌}
 use native.Mathlib.Omega.{arith}
-use Rattle.bench_lines.proofs.Reading.{read_more, read-space, read-end}
+use lib.ListN.{length}
+use Rattle.bench_lines.proofs.Reading.{read_none, read_more, read-space, read-end}
 use Rattle.bench_lines.proofs.fields.field_end.Goals as goal
 
+pub loop-i-init : goal.loop-i-init
+loop-i-init c = read_none c.args.line.now c.args.at
+
 pub returns-then-line-i-eq32 : goal.returns-then-line-i-eq32
-returns-then-line-i-eq32 c = let l = c.loop-i in read-space _ _ _ l.invariant.0 c.loop-i-test.true l.invariant.2 c.if-line-i-eq32.true
+returns-then-line-i-eq32 c = read-space _ _ _ (omega arith) c.loop-i-test.true c.loop-i.invariant c.if-line-i-eq32.true
 
 pub loop-i-preserved : goal.loop-i-preserved
-loop-i-preserved c =
-    let l = c.loop-i in
-    (omega arith, omega arith, read_more _ _ _ l.invariant.0 c.loop-i-test.true l.invariant.2 c.if-line-i-eq32.false)
+loop-i-preserved c = read_more _ _ _ (omega arith) c.loop-i-test.true c.loop-i.invariant c.if-line-i-eq32.false
 
 pub returns : goal.returns
-returns c = let v = c.loop-i.invariant in read-end _ _ _ v.0 v.1 c.loop-i-test.false v.2
+returns c =
+    let i : c.loop-i.i ≡ length c.args.line.now = omega arith in
+    rw i at (read-end _ _ _ (omega arith) i c.loop-i.invariant)
