@@ -17,7 +17,7 @@ use streams::{BUFFER, print_decimal, write_all};
 pub struct Turn {
     pub device: Chip,
     pub model: Answer,
-    pub compared: Compared,
+    pub compared: Option<Compared>,
 }
 
 // Whether an input that has no more is at its end; where it cannot be read, a line says so.

@@ -125,11 +125,9 @@ fn print_fields<W: Write>(out: &mut W, differs: [bool; FIELDS]) {
 // A line that is readable and does not agree, and the device before it.
 fn print_parted<W: Write>(out: &mut W, line: u64, d: Chip, event: Text, board: Text, t: Turn) {
     let m = t.model;
-    let c = t.compared;
-    let differs = c.differs;
-    if !c.readable {
+    let Some(c) = t.compared else {
         return;
-    }
+    };
     write_all(out, b"line            ");
     print_decimal(out, line);
     write_all(out, b"\n");
@@ -137,7 +135,7 @@ fn print_parted<W: Write>(out: &mut W, line: u64, d: Chip, event: Text, board: T
     print_line(out, b"board           ", board);
     write_all(out, b"model           ");
     print(out, texts::answer_text(m));
-    print_fields(out, differs);
+    print_fields(out, c.differs);
     write_all(out, b"before this event\n");
     image_files::show_device(d, out);
 }
@@ -173,15 +171,14 @@ pub(crate) fn part<R: Read, S: Read, W: Write>(
             };
         }
         let t = beside(sound, device, n.text, m.text);
-        let c = t.compared;
-        if !c.agrees {
+        if !t.compared.is_some_and(|c| c.agrees) {
             print_parted(out, agreed + 1, device, n.text, m.text, t);
             return Stop {
                 agreed,
                 line: agreed + 1,
                 has_event: true,
                 has_answer: true,
-                readable: c.readable,
+                readable: t.compared.is_some(),
             };
         }
         let i = ready(r, &read);

@@ -16,13 +16,13 @@ fn numbers(a: Answer) -> [u32; FIELDS]
     let t = a.report.terminals;
     let l = a.report.lost;
     [
-        a.code as u32,
-        a.value as u32,
-        a.a as u32,
-        a.b as u32,
-        (a.c % 16) as u32,
-        a.int as u32,
-        a.ieo as u32,
+        a.code.into(),
+        a.value.into(),
+        a.a.into(),
+        a.b.into(),
+        (a.c % 16).into(),
+        a.int.into(),
+        a.ieo.into(),
         t[0],
         t[1],
         t[2],
@@ -55,7 +55,7 @@ pub fn compare(a: Answer, line: &[u8]) -> Option<Compared>
         let field = next_field(line, at, i);
         let d = differs_from(n[i], field.says)?;
         differs[i] = d;
-        agrees = agrees & !d;
+        agrees &= !d;
         at = field.next;
     }
     if at.is_some() {
