@@ -1,15 +1,7 @@
--- The sources from the highest down, as the code goes through them.
+-- One of the five sources, or none.
 -- Assumes nothing.
-use Rattle.std.specs.Prelude.{ℕ, ◌&&◌, if◌then◌else◌}
-use Rattle.rules.specs.declared.Device.{Device}
-use Rattle.rules.specs.declared.Source.{Source}
-use Rattle.rules.specs.Record.{source_at}
+use Rattle.std.specs.Prelude.{ℕ, Option, Some, None, ◌==◌, if◌then◌else◌}
 
--- of source k and those below it, of which rest is the first: none where it is served, itself where it waits
-unfoldable pub unserved : Source → ℕ → ℕ → ℕ
-unserved s k rest = if s.ius then 5 else if s.ie && s.ip then k else rest
-
--- the first that waits above all that are served; 5 if none
-unfoldable pub first_unserved : Device → ℕ
-first_unserved d =
-    unserved (source_at d 0) 0 (unserved (source_at d 1) 1 (unserved (source_at d 2) 2 (unserved (source_at d 3) 3 (unserved (source_at d 4) 4 5))))
+-- where `rules/Interrupts` has "5 if none", the code has none
+abbrev pub one_of : ℕ → Option ℕ
+one_of k = if k == 5 then None else Some k

@@ -4,12 +4,12 @@
 mod order;
 mod vectors;
 
-ghost use Rattle.std.specs.Prelude.{◌≡◌, ◌<◌, ◌≤◌};
-ghost use Rattle.interrupts.specs.Order.{first_unserved};
+ghost use Rattle.std.specs.Prelude.{◌≡◌, ◌≤◌};
 ghost use Rattle.rules.specs.Registers.{mie};
-ghost use Rattle.rules.specs.Interrupts.{first, pending, requester, int_of, ieo_of, place_of, lines_of, relined, acknowledge, acknowledged, pending_counter, vector_read, current_vector};
+ghost use Rattle.rules.specs.Interrupts.{ieo_of, place_of, lines_of, relined, acknowledge, acknowledged, vector_read, current_vector};
 
-use order::NONE;
+use basics::Place;
+pub use order::requester_of;
 use rules::{Device, Lines, Source};
 
 fn mie(d: Device) -> bool
@@ -18,38 +18,15 @@ fn mie(d: Device) -> bool
     d.master / 128 % 2 == 1
 }
 
-// The highest requester, or 5, where the master bits let sources request.
-#[tactic(auto, unfolding(crate::specs::Order::first_unserved))]
-fn first_unserved(d: Device) -> usize
-    ensures { (result ≡ first_unserved d) × (result ≤ 5) }
-{
-    let from_ct1 = order::unserved(d.sources[Source::CT1], Source::CT1, NONE);
-    let from_b = order::unserved(d.sources[Source::B], Source::B, from_ct1);
-    let from_ct2 = order::unserved(d.sources[Source::CT2], Source::CT2, from_b);
-    let from_a = order::unserved(d.sources[Source::A], Source::A, from_ct2);
-    order::unserved(d.sources[Source::CT3], Source::CT3, from_a)
-}
-
-// The highest requester, or 5.
-pub fn requester_of(d: Device) -> usize
-    ensures { (result ≡ requester d) × (result ≤ 5) }
-{
-    if mie(d) & d.iei {
-        return first_unserved(d);
-    }
-    NONE
-}
-
 // The place of the highest requester: 1 to 5, or 0.
 #[tactic(auto, unfolding(rules::specs::Interrupts::place_of))]
 fn place(d: Device) -> u8
     ensures { (result ≡ place_of d) × (result ≤ 5) }
 {
-    let k = requester_of(d);
-    if k == NONE {
-        return 0;
+    match requester_of(d) {
+        Some(k) => 1 + (k.index() as u8),
+        None => 0,
     }
-    1 + (k as u8)
 }
 
 #[tactic(auto, unfolding(rules::specs::Interrupts::ieo_of))]
@@ -57,7 +34,7 @@ fn ieo(d: Device) -> bool
     ensures { result ≡ ieo_of d }
 {
     let dlc = d.master / 64 % 2 == 1;
-    d.iei & !order::served_at(d, Source::CT1) & !dlc
+    d.iei & !order::is_served(d) & !dlc
 }
 
 // INT, IEO and the place, worked out: some source requests where there is a place.
@@ -78,9 +55,10 @@ pub fn lines(d: Device) -> Lines
 pub fn relined(d: Device) -> Device
     ensures { result ≡ relined d }
 {
-    let mut e = d;
-    e.lines = lines(d);
-    e
+    Device {
+        lines: lines(d),
+        ..d
+    }
 }
 
 // The value of an acknowledge.
@@ -88,12 +66,11 @@ pub fn relined(d: Device) -> Device
 pub fn acknowledge(d: Device) -> u8
     ensures { result ≡ acknowledge d }
 {
-    let k = requester_of(d);
     let nv = d.master / 32 % 2 == 1;
-    if nv | (k == NONE) {
-        return 0;
+    match requester_of(d) {
+        Some(k) if !nv => vectors::vector_for(d, k),
+        _ => 0,
     }
-    vectors::vector_for(d, k)
 }
 
 // The record after an acknowledge: as it was where none requests.
@@ -101,41 +78,11 @@ pub fn acknowledge(d: Device) -> u8
 pub fn acknowledged(d: Device) -> Device
     ensures { result ≡ acknowledged d }
 {
-    let k = requester_of(d);
-    if k == NONE {
-        return d;
-    }
     let mut e = d;
-    e.sources[k].ius = true;
+    if let Some(k) = requester_of(d) {
+        e.sources[k.index()].ius = true;
+    }
     e
-}
-
-// The highest with IP and IE, or 5.
-#[tactic(auto, unfolding(rules::specs::Interrupts::first))]
-fn pending_first(d: Device) -> usize
-    ensures { (result ≡ first (pending d)) × (result ≤ 5) }
-{
-    order::first(
-        order::pending_at(d, Source::CT3),
-        order::pending_at(d, Source::A),
-        order::pending_at(d, Source::CT2),
-        order::pending_at(d, Source::B),
-        order::pending_at(d, Source::CT1),
-    )
-}
-
-// The highest counter with IP and IE, or 5.
-#[tactic(auto, unfolding(rules::specs::Interrupts::pending_counter))]
-fn pending_counter(d: Device) -> usize
-    ensures { (result ≡ pending_counter d) × (result ≤ 5) }
-{
-    order::first(
-        order::pending_at(d, Source::CT3),
-        false,
-        order::pending_at(d, Source::CT2),
-        false,
-        order::pending_at(d, Source::CT1),
-    )
 }
 
 // What a vector register reads.
@@ -148,16 +95,15 @@ pub fn vector_read(d: Device, v: usize) -> u8
         return base;
     }
     if v == 0 {
-        return vectors::with_status(d, Source::A);
+        return vectors::with_status(d, Place { at: Source::A });
     }
     if v == 1 {
-        return vectors::with_status(d, Source::B);
+        return vectors::with_status(d, Place { at: Source::B });
     }
-    let k = pending_counter(d);
-    if k == NONE {
-        return base;
+    match order::pending_counter(d) {
+        Some(k) => vectors::with_status(d, k),
+        None => base,
     }
-    vectors::with_status(d, k)
 }
 
 // What 1FH reads.
@@ -168,9 +114,8 @@ pub fn current_vector(d: Device) -> u8
     if !mie(d) {
         return 255;
     }
-    let k = pending_first(d);
-    if k == NONE {
-        return 255;
+    match order::pending_first(d) {
+        Some(k) => vectors::vector_for(d, k),
+        None => 255,
     }
-    vectors::vector_for(d, k)
 }

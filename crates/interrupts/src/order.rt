@@ -1,79 +1,49 @@
 // The order of the five sources: who waits, who is served, who comes first.
-ghost use Rattle.std.specs.Prelude.{◌≡◌, ◌<◌, ◌≤◌};
-ghost use Rattle.rules.specs.Record.{source_at};
-ghost use Rattle.rules.specs.Interrupts.{first_of, served, pending};
-ghost use Rattle.interrupts.specs.Order.{unserved};
+ghost use Rattle.std.specs.Prelude.{◌≡◌};
+ghost use Rattle.rules.specs.Registers.{mie};
+ghost use Rattle.rules.specs.Interrupts.{first, served, pending, pending_counter, requester};
+ghost use Rattle.interrupts.specs.Order.{one_of};
 
+use crate::mie;
+use basics::Place;
 use rules::{Device, Source};
 
-// Where none of the five is meant.
-pub(crate) const NONE: usize = 5;
-
-// The first of five that holds, in the order of the sources, or NONE.
-#[tactic(auto, unfolding(rules::specs::Interrupts::first_of))]
-pub(crate) fn first(ct3: bool, a: bool, ct2: bool, b: bool, ct1: bool) -> usize
-    ensures { (result ≡ first_of ct3 a ct2 b ct1) × (result ≤ 5) }
+// The highest requester: where the master bits let sources request, the first that waits, unless it or one above it is served.
+pub fn requester_of(d: Device) -> Option<Place<5>>
+    ensures { result ≡ one_of (requester d) }
 {
-    if ct3 {
-        return Source::CT3;
+    if !(mie(d) & d.iei) {
+        return None;
     }
-    if a {
-        return Source::A;
+    let k = Place::of(d.sources.iter().position(|s| s.ius | (s.ie & s.ip))?)?;
+    if d.sources[k.index()].ius {
+        return None;
     }
-    if ct2 {
-        return Source::CT2;
-    }
-    if b {
-        return Source::B;
-    }
-    if ct1 {
-        return Source::CT1;
-    }
-    NONE
+    Some(k)
 }
 
-// Of source k and those below it, of which `rest` is the first: none where it is served, itself where it waits.
-#[tactic(auto, unfolding(crate::specs::Order::unserved))]
-pub(crate) fn unserved(s: Source, k: usize, rest: usize) -> usize
-    requires { (k ≤ 5) × (rest ≤ 5) }
-    ensures { (result ≡ unserved s k rest) × (result ≤ 5) }
+// Whether any source has IUS.
+pub(crate) fn is_served(d: Device) -> bool
+    ensures { result ≡ served d 4 }
 {
-    if s.ius {
-        return NONE;
-    }
-    if s.ie & s.ip {
-        return k;
-    }
-    rest
+    d.sources.iter().any(|s| s.ius)
 }
 
-pub(crate) fn source_at(d: Device, k: usize) -> Source
-    requires { k < 5 }
-    ensures { result ≡ source_at d k }
+// The highest with IP and IE.
+pub(crate) fn pending_first(d: Device) -> Option<Place<5>>
+    ensures { result ≡ one_of (first (pending d)) }
 {
-    d.sources[k]
+    Place::of(d.sources.iter().position(|s| s.ie & s.ip)?)
 }
 
-// Whether a source from the highest down to source k has IUS.
-#[tactic(auto, unfolding(rules::specs::Interrupts::served))]
-pub(crate) fn served_at(d: Device, k: usize) -> bool
-    requires { k < 5 }
-    ensures { result ≡ served d k }
+// The highest counter with IP and IE. Counters have the even places.
+pub(crate) fn pending_counter(d: Device) -> Option<Place<5>>
+    ensures { result ≡ one_of (pending_counter d) }
 {
-    let mut i = Source::CT3;
-    let mut any = source_at(d, i).ius;
-    while i < k {
-        i += 1;
-        any = source_at(d, i).ius | any;
-    }
-    any
-}
-
-#[tactic(auto, unfolding(rules::specs::Interrupts::pending))]
-pub(crate) fn pending_at(d: Device, k: usize) -> bool
-    requires { k < 5 }
-    ensures { result ≡ pending d k }
-{
-    let s = source_at(d, k);
-    s.ie & s.ip
+    let counters = [
+        d.sources[Source::CT3],
+        d.sources[Source::CT2],
+        d.sources[Source::CT1],
+    ];
+    Place::of(2 * counters.iter().position(|s| s.ie & s.ip)?)
 }

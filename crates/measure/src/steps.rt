@@ -102,12 +102,9 @@ pub(crate) fn ticked(n: u32, d: Device, f: Device, m: Measure) -> Measure
 pub(crate) fn taken(d: Device, m: Measure) -> Measure
     ensures { result ≡ taken_of d m }
 {
-    let k = interrupts::requester_of(d);
-    if 5 <= k {
-        return m;
-    }
-    let w = waits::counted(m.clocks, m.waits[k]);
     let mut r = m;
-    r.waits[k] = w;
+    if let Some(k) = interrupts::requester_of(d) {
+        r.waits[k.index()] = waits::counted(m.clocks, m.waits[k.index()]);
+    }
     r
 }

@@ -64,7 +64,7 @@ pattern-eq s t = simp and_assoc
 unfoldable pub transfer_eq : Transfer → Transfer → Bool
 transfer_eq s t = eqb s.front t.front && (eqb s.behind t.behind && (eqb s.bytes t.bytes && (beq s.unfinished t.unfinished && (beq s.pair t.pair))))
 
-transfer-eq : (s t : Transfer) → transfer_eq s t ≡ same_transfer s t
+pub transfer-eq : (s t : Transfer) → transfer_eq s t ≡ same_transfer s t
 unfolding transfer_eq same_transfer
 transfer-eq s t = simp and_assoc
 

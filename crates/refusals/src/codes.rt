@@ -51,17 +51,13 @@ fn is_read_only(e: Event) -> bool
 fn is_later(d: Device, e: Event) -> bool
     ensures { result ≡ (is_w e && later d e.a e.b) }
 {
-    let setting = settings::later(d, e.a, e.b);
-    (e.kind == Event::W) & setting
+    (e.kind == Event::W) && settings::later(d, e.a, e.b)
 }
 
 fn is_unrequested(d: Device, e: Event) -> bool
     ensures { result ≡ (is_k e && requester d == 5) }
 {
-    if e.kind == Event::K {
-        return interrupts::requester_of(d) == 5;
-    }
-    false
+    (e.kind == Event::K) && interrupts::requester_of(d).is_none()
 }
 
 // The read of the data of an input port that holds no byte.

@@ -1,6 +1,6 @@
 // Whether a record is sound.
 ghost use Rattle.std.specs.Prelude.{◌≡◌, ◌<◌};
-ghost use Rattle.rules.specs.Record.{counter_at, source_at};
+ghost use Rattle.rules.specs.Record.{counter_at};
 ghost use Rattle.rules.specs.Registers.{counter_enabled};
 ghost use Rattle.rules.specs.Sound.{four_bits, later_port, no_later, sound_source, sound_counter, sound_port, sound_port_at, pmf_only, held_only, sound_transfer, sound_transfer_at};
 ghost use Rattle.rules.specs.Sound.{reset_only, sound_sources, sound_counters, sound_ports, sound_patterns, sound_transfers, sound_version, sound_but_lines, sound_lines, sound_of};
@@ -15,23 +15,11 @@ fn sound_source(s: Source) -> bool
     (!s.err | s.ip) & (!s.hidden | (s.ip & !s.err))
 }
 
-fn sound_source_at(d: Device, k: usize) -> bool
-    requires { k < 5 }
-    ensures { result ≡ sound_source (source_at d k) }
-{
-    let s = d.sources[k];
-    sound_source(s)
-}
-
 #[tactic(auto, unfolding(rules::specs::Sound::sound_sources))]
 fn sound_sources(d: Device) -> bool
     ensures { result ≡ sound_sources d }
 {
-    sound_source_at(d, 0)
-        & sound_source_at(d, 1)
-        & sound_source_at(d, 2)
-        & sound_source_at(d, 3)
-        & sound_source_at(d, 4)
+    d.sources.iter().all(|s| sound_source(*s))
 }
 
 fn sound_counter(version: u8, enabled: bool, c: Counter) -> bool
@@ -45,8 +33,7 @@ fn sound_counter_at(d: Device, i: usize) -> bool
     requires { i < 3 }
     ensures { result ≡ sound_counter d.version (counter_enabled d i) (counter_at d i) }
 {
-    let c = d.counters[i];
-    sound_counter(d.version, levels::counter_on(d.config, i), c)
+    sound_counter(d.version, levels::counter_on(d.config, i), d.counters[i])
 }
 
 #[tactic(auto, unfolding(rules::specs::Sound::sound_counters))]
@@ -102,17 +89,15 @@ fn sound_port_at(d: Device, p: usize) -> bool
 fn sound_ports(d: Device) -> bool
     ensures { result ≡ sound_ports d }
 {
-    let c = d.ports[2];
-    four_bits(c) & sound_port_at(d, 0) & sound_port_at(d, 1) & sound_port_at(d, 2)
+    four_bits(d.ports[2]) & sound_port_at(d, 0) & sound_port_at(d, 1) & sound_port_at(d, 2)
 }
 
 #[tactic(auto, unfolding(rules::specs::Sound::sound_patterns))]
 fn sound_patterns(d: Device) -> bool
     ensures { result ≡ sound_patterns d }
 {
-    let a = d.patterns[0];
-    let b = d.patterns[1];
-    pmf_only(levels::port_enabled(d, 0), a) & pmf_only(levels::port_enabled(d, 1), b)
+    pmf_only(levels::port_enabled(d, 0), d.patterns[0])
+        & pmf_only(levels::port_enabled(d, 1), d.patterns[1])
 }
 
 // A port that has no handshake, or is disabled, holds nothing.
@@ -120,7 +105,7 @@ fn held_only(enabled: bool, q: Pattern, t: Transfer) -> bool
     ensures { result ≡ held_only enabled q t }
 {
     (ports::handshakes(q) & enabled)
-        | ((t.front == 0) & (t.behind == 0) & (t.bytes == 0) & !t.unfinished & !t.pair)
+        | (t == Transfer::default())
 }
 
 #[tactic(auto, unfolding(rules::specs::Sound::sound_transfer, rules::specs::Sound::room_only, rules::specs::Sound::bytes_only, rules::specs::Sound::unfinished_only, rules::specs::Sound::pair_only, rules::specs::Sound::front_only))]
@@ -139,12 +124,11 @@ fn sound_transfer_at(d: Device, p: usize) -> bool
     requires { p < 2 }
     ensures { result ≡ sound_transfer_at d p }
 {
-    let s = d.sources[Source::of_port(p)];
     sound_transfer(
         levels::port_enabled(d, p),
         d.ports[p].output,
         d.patterns[p],
-        s,
+        d.sources[Source::of_port(p)],
         d.transfers[p],
     )
 }
@@ -156,30 +140,24 @@ fn sound_transfers(d: Device) -> bool
     sound_transfer_at(d, 0) & sound_transfer_at(d, 1)
 }
 
-fn wide(b: u8) -> u32
-    ensures { result ≡ b }
-{
-    b as u32
-}
-
 fn later_port(version: u8, q: Pattern) -> bool
     ensures { result ≡ later_port version q }
 {
-    settings::later_port_mode(version, wide(q.mode))
-        | settings::later_handshake(wide(q.mode), wide(q.handshake))
-        | settings::later_priority(wide(q.mode), wide(q.transition))
+    settings::later_port_mode(version, q.mode as u32)
+        | settings::later_handshake(q.mode as u32, q.handshake as u32)
+        | settings::later_priority(q.mode as u32, q.transition as u32)
 }
 
 #[tactic(auto, unfolding(rules::specs::Sound::no_later))]
 fn no_later(d: Device) -> bool
     ensures { result ≡ no_later d }
 {
-    !settings::later_config(wide(d.config))
+    !settings::later_config(d.config as u32)
         & !later_port(d.version, d.patterns[0])
         & !later_port(d.version, d.patterns[1])
-        & !settings::later_counter_mode(wide(d.counters[0].mode))
-        & !settings::later_counter_mode(wide(d.counters[1].mode))
-        & !settings::later_counter_mode(wide(d.counters[2].mode))
+        & !settings::later_counter_mode(d.counters[0].mode as u32)
+        & !settings::later_counter_mode(d.counters[1].mode as u32)
+        & !settings::later_counter_mode(d.counters[2].mode as u32)
 }
 
 #[tactic(auto, unfolding(rules::specs::Sound::reset_only))]
@@ -187,9 +165,10 @@ fn reset_only(d: Device) -> bool
     ensures { result ≡ reset_only d }
 {
     if d.reset() {
-        let mut e = record::reset(d);
-        let lines = d.lines;
-        e.lines = lines;
+        let e = Device {
+            lines: d.lines,
+            ..record::reset(d)
+        };
         return record::same(d, e);
     }
     true
@@ -206,9 +185,7 @@ fn sound_version(d: Device) -> bool
 fn sound_lines(d: Device) -> bool
     ensures { result ≡ sound_lines d }
 {
-    let l = d.lines;
-    let m = interrupts::lines(d);
-    (l.int == m.int) & (l.ieo == m.ieo) & (l.place == m.place)
+    d.lines == interrupts::lines(d)
 }
 
 #[tactic(auto, unfolding(rules::specs::Sound::sound_but_lines))]

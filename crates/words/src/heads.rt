@@ -104,7 +104,7 @@ pub(crate) fn acknowledge_line(d: Device) -> Text
     ensures { result ≡ typed no_text (acknowledge_line d) }
 {
     let t = word(Text::new(), b"K would give    ");
-    if interrupts::requester_of(d) < 5 {
+    if interrupts::requester_of(d).is_some() {
         return byte_cell(t, interrupts::acknowledge(d)).push(b'\n');
     }
     word(t, b"code 6\n")

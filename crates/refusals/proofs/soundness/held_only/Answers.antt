@@ -1,22 +1,20 @@
--- the definition with its tests as in the code
-use mathlib.Core.Path.{◌≡◌}
-use mathlib.Core.Bool.{Bool, false, not, ◌&&◌, ◌||◌, beq}
-use lib.Dec.{eqb}
-use Rattle.basics.proofs.Truth.{all6, same}
-use Rattle.rules.specs.declared.Pattern.{Pattern}
-use Rattle.rules.specs.declared.Transfer.{Transfer}
+use mathlib.Core.Path.{◌≡◌, refl, ap, ◌∙◌}
+use mathlib.Core.Bool.{Bool, true, false, not, ◌&&◌, ◌||◌}
+use borrow.Author.Rules.{rules}
+use Rattle.rules.specs.Record.{vacant}
 use Rattle.rules.specs.Handshakes.{handshakes}
 use Rattle.rules.specs.Sound.{only, same_transfer, held_only}
+use Rattle.record.proofs.Parts.{transfer_eq, transfer-eq}
 use Rattle.refusals.proofs.soundness.held_only.Goals as goal
 
-tested : (e : Bool) (q : Pattern) (t : Transfer)
-    → held_only e q t ≡ ((handshakes q && e) || (eqb t.front 0 && eqb t.behind 0 && eqb t.bytes 0 && not t.unfinished && not t.pair))
-unfolding held_only same_transfer
-tested e q t =
-    same _ _
-    (all6
-    (λ x f b n u p. beq (only (not x) (f && b && n && beq u false && beq p false)) (x || (f && b && n && not u && not p)))
-    tt (handshakes q && e) (eqb t.front 0) (eqb t.behind 0) (eqb t.bytes 0) t.unfinished t.pair)
+unless : (x r s : Bool) → r ≡ s → (x || r) ≡ only (not x) s
+unless true r s p = refl
+unless false r s p = p
 
 pub returns : goal.returns
-returns c = simp (tested, c.handshakes.ensures)
+unfolding held_only transfer_eq
+returns c =
+    let a = c.args in
+    let empty : c.default.result ≡ vacant = search rules in
+    let same = c.eq.ensures ∙ transfer-eq _ _ ∙ ap (same_transfer a.t) empty in
+    simp c.handshakes.ensures (unless (handshakes a.q && a.enabled) _ _ same)
