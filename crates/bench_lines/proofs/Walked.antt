@@ -1,16 +1,18 @@
 -- A line walked byte by byte: what each step has met, in the buffer.
 -- Assumes nothing.
-use Prim.Native.Nat.{ℕ, ◌+◌, ◌<◌}
+use Prim.Native.Nat.{ℕ, ◌+◌, ◌<◌, ◌≤◌}
 use mathlib.Core.List.{List, [], ◌∷◌, ◌++◌, append_assoc}
 use mathlib.Core.Logic.{inl, inr}
-use mathlib.Core.Path.{◌≡◌, refl, sym, ap, ◌∙◌}
+use mathlib.Core.Path.{◌≡◌, refl, sym, ap, subst, ◌∙◌}
 use native.Mathlib.Nat.{add-zero}
 use native.Mathlib.Numerals.{add-one}
 use native.Mathlib.Omega.{arith}
-use lib.ListN.{length, drop, get_or, length-append, length-drop}
+use lib.ListN.{length, take, drop, get_or, length-append, length-drop}
+use Rattle.std.proofs.Common.{map}
+use Rattle.std.proofs.lemmas.List.{map-append, take-append-drop, take_all}
 use lib.Seq.{drop-cons}
 use Rattle.texts.specs.Answers.{space, line_feed}
-use Rattle.bench_lines.specs.Walk.{Meets, After, over, next, field, Up, Met, MetFirst}
+use Rattle.bench_lines.specs.Walk.{Meets, After, over, next, field, Up, Met, MetFirst, Ended}
 
 -- ---- bytes of a buffer
 at_byte : (b : List ℕ) (at : ℕ) → at < length b → drop at b ≡ get_or b at 0 ∷ drop (at + 1) b
@@ -28,10 +30,33 @@ pub feeds : {us : List (List ℕ)} (b : List ℕ) (at : ℕ) → at < length b �
 feeds b at h e =
     record { bytes = []; left = drop (at + 1) b; are = at_byte b at h ∙ ap (λ (x : ℕ). x ∷ drop (at + 1) b) e; end = add-zero at; holds = over }
 
--- ---- a step: to the end of the buffer, where no line goes on
-pub first-none : (t b : List ℕ) (at : ℕ) → MetFirst (t ∷ []) b at (length b)
-first-none t b at us e u = absurd (let h = within b (length b) e u in omega arith)
+-- ---- one step after the other
+pub met-nothing : (b : List ℕ) (at : ℕ) → Met [] b at at
+met-nothing b at us e u = u
 
+pub met-then : (ts us : List (List ℕ)) (b : List ℕ) (at i r : ℕ) → Met ts b at i → Met us b i r → Met (ts ++ us) b at r
+met-then ts us b at i r m n vs e u = rw append_assoc (m (us ++ vs) e (n vs e u))
+
+-- a walk that met the first of all texts may end there
+pub met-ended : (ts us all : List (List ℕ)) (b : List ℕ) (at i : ℕ) → Met ts b at i → ts ++ us ≡ all → Ended all b at i
+met-ended ts us all b at i m q h f = subst (λ (l : List (List ℕ)). Up (After l) b at i) q (m us i (feeds b i h f))
+
+-- after the first k of all texts, and others behind them
+pub met-first : (f : ℕ → List ℕ) (ns : List ℕ) (rest : List (List ℕ)) (k : ℕ) (b : List ℕ) (at i : ℕ)
+    → Met (map f (take k ns)) b at i → Ended (map f ns ++ rest) b at i
+met-first f ns rest k b at i m =
+    met-ended (map f (take k ns)) (map f (drop k ns) ++ rest) (map f ns ++ rest) b at i m
+    (sym (append_assoc (map f (take k ns)) (map f (drop k ns)) rest)
+    ∙ ap (λ (l : List (List ℕ)). l ++ rest) (sym (map-append f (take k ns) (drop k ns)) ∙ ap (map f) (take-append-drop k ns)))
+
+-- where all were met, and the walk went on
+pub met-all : (f : ℕ → List ℕ) (ns : List ℕ) (rest : List (List ℕ)) (k : ℕ) (b : List ℕ) (at i r : ℕ) → length ns ≤ k
+    → Met (map f (take k ns)) b at i → Ended rest b i r → Ended (map f ns ++ rest) b at r
+met-all f ns rest k b at i r e m n h g =
+    let w : Met (map f ns) b at i = subst (λ (l : List ℕ). Met (map f l) b at i) (take_all k ns e) m in
+    w rest r (n h g)
+
+-- ---- a step
 -- a space and a field
 met-field : (t f b : List ℕ) (at r : ℕ) → Meets t f → drop at b ≡ space ∷ (f ++ drop r b) → r ≡ at + 1 + length f → Met (t ∷ []) b at r
 met-field t f b at r m d z us e u =

@@ -47,10 +47,6 @@ MeetsIf r text f = r ≡ true → Meets text f
 abbrev pub MetIf : Bool → List (List ℕ) → List ℕ → ℕ → ℕ → Type 0
 MetIf r ts b at e = r ≡ true → Met ts b at e
 
--- where the walk went on
-abbrev pub MetOr : List (List ℕ) → List ℕ → ℕ → ℕ → Type 0
-MetOr ts b at r = (r ≡ at → ⊥) → Met ts b at r
-
 -- a walk that ended at a place met some of these texts: if the line ends there, the others are missing
 abbrev pub Ended : List (List ℕ) → List ℕ → ℕ → ℕ → Type 0
 Ended ts b at r = r < length b → get_or b r 0 ≡ line_feed → Up (After ts) b at r

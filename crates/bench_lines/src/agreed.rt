@@ -1,8 +1,8 @@
 // A line that agrees, at once: straight from the buffer that was read, byte by byte.
-ghost use Rattle.std.specs.Prelude.{[], ◌∷◌, ◌≡◌, ◌+◌, ◌/◌, ◌≤◌, ◌<◌, length};
+ghost use Rattle.std.specs.Prelude.{IfSome, [], ◌∷◌, ◌≡◌, ◌+◌, ◌/◌, ◌≤◌, ◌<◌, length};
 ghost use Rattle.texts.specs.Answers.{glyph_of, decimal_text};
 ghost use Rattle.bench_lines.specs.Agreed.{agreed_to};
-ghost use Rattle.bench_lines.specs.Walk.{bit_byte, MeetsIf, MetFirst, MetIf, MetOr, Ended, counts_of, tail_of, Agrees};
+ghost use Rattle.bench_lines.specs.Walk.{bit_byte, MeetsIf, MetFirst, Met, MetIf, Ended, counts_of, tail_of, Agrees};
 
 use crate::comparing::compare;
 use rules::Answer;
@@ -30,19 +30,18 @@ fn bit(f: bool) -> u8
     b'0'
 }
 
-// The place after the first field of a line, where that is this code, or `-`; else the end of the buffer.
-fn first(b: &[u8], at: usize, code: u8) -> usize
-    ensures met_first { MetFirst (decimal_text code ∷ []) b.now at result }
-    ensures upper_bound { result ≤ length b.now }
+// The place after the first field of a line, where that is this code, or `-`.
+fn first(b: &[u8], at: usize, code: u8) -> Option<usize>
+    ensures met_first { IfSome result (MetFirst (decimal_text code ∷ []) b.now at) }
+    ensures upper_bound { IfSome result (λ r. r ≤ length b.now) }
 {
-    let n = b.len();
-    if n <= at {
-        return n;
+    if b.len() <= at {
+        return None;
     }
     if is_count(b[at], code as u32) {
-        return at + 1;
+        return Some(at + 1);
     }
-    n
+    None
 }
 
 // Whether there is a space, and a field of one byte.
@@ -85,22 +84,22 @@ fn has_two(b: &[u8], at: usize, g: u8, l: u8) -> bool
     b[at + 2] == l
 }
 
-// The place after a space and two hexadecimal digits, or `-`; where there is another field, or none, the place itself.
-fn pair(b: &[u8], at: usize, v: u8) -> usize
+// The place after a space and two hexadecimal digits, or `-`, where they are there.
+fn pair(b: &[u8], at: usize, v: u8) -> Option<usize>
     requires { at ≤ length b.now }
-    ensures met_or { MetOr ((glyph_of (v / 16) ∷ glyph_of v ∷ []) ∷ []) b.now at result }
-    ensures upper_bound { result ≤ length b.now }
+    ensures met { IfSome result (Met ((glyph_of (v / 16) ∷ glyph_of v ∷ []) ∷ []) b.now at) }
+    ensures upper_bound { IfSome result (λ r. r ≤ length b.now) }
 {
     if b.len() - at < 4 {
-        return at;
+        return None;
     }
     if has_two(b, at, glyph(v / 16), glyph(v)) {
-        return at + 3;
+        return Some(at + 3);
     }
     if has_one(b, at, b'-') {
-        return at + 2;
+        return Some(at + 2);
     }
-    at
+    None
 }
 
 // The place after six numbers; where one is another, or there is none, the place before it.
@@ -108,30 +107,14 @@ fn counts(b: &[u8], at: usize, t: [u32; 3], l: [u32; 3]) -> usize
     requires { at + 12 < length b.now }
     ensures { Ended (counts_of t l) b.now at result }
 {
-    if !has_count(b, at, t[0]) {
-        return at;
+    let mut i = at;
+    for n in [t[0], t[1], t[2], l[0], l[1], l[2]] {
+        if !has_count(b, i, n) {
+            return i;
+        }
+        i += 2;
     }
-    let i = at + 2;
-    if !has_count(b, i, t[1]) {
-        return i;
-    }
-    let j = i + 2;
-    if !has_count(b, j, t[2]) {
-        return j;
-    }
-    let k = j + 2;
-    if !has_count(b, k, l[0]) {
-        return k;
-    }
-    let m = k + 2;
-    if !has_count(b, m, l[1]) {
-        return m;
-    }
-    let n = m + 2;
-    if !has_count(b, n, l[2]) {
-        return n;
-    }
-    n + 2
+    i
 }
 
 // The same from C on.
@@ -139,44 +122,35 @@ fn tail(a: Answer, b: &[u8], at: usize) -> usize
     requires { at ≤ length b.now }
     ensures { Ended (tail_of a) b.now at result }
 {
-    let report = a.report;
-    let t = report.terminals;
-    let l = report.lost;
     if b.len() - at < 19 {
         return at;
     }
-    if !has_one(b, at, glyph(a.c)) {
-        return at;
+    let mut i = at;
+    for d in [glyph(a.c), bit(a.int), bit(a.ieo)] {
+        if !has_one(b, i, d) {
+            return i;
+        }
+        i += 2;
     }
-    let i = at + 2;
-    if !has_one(b, i, bit(a.int)) {
-        return i;
-    }
-    let j = i + 2;
-    if !has_one(b, j, bit(a.ieo)) {
-        return j;
-    }
-    let k = j + 2;
-    counts(b, k, t, l)
+    counts(b, i, a.report.terminals, a.report.lost)
 }
 
 // The place after all fields, or before the first that is another, or not there.
 fn last(a: Answer, b: &[u8], at: usize) -> usize
     ensures { Agrees a b.now at result }
 {
-    let i = first(b, at, a.code);
-    let j = pair(b, i, a.value);
-    if j == i {
+    let Some(i) = first(b, at, a.code) else {
+        return b.len();
+    };
+    let Some(j) = pair(b, i, a.value) else {
         return i;
-    }
-    let k = pair(b, j, a.a);
-    if k == j {
+    };
+    let Some(k) = pair(b, j, a.a) else {
         return j;
-    }
-    let m = pair(b, k, a.b);
-    if m == k {
+    };
+    let Some(m) = pair(b, k, a.b) else {
         return k;
-    }
+    };
     tail(a, b, m)
 }
 

@@ -9,26 +9,26 @@ ranged : (a : Answer) → a.code < 256 → a.value < 256 → a.a < 256 → a.b <
     → ((k : ℕ) → Fits w32 (get_or a.report.lost k 0)) → Ranged a
 ranged a c v p q t l = record { code = c; value = v; pins-a = p; pins-b = q; terminals = λ k. let h = t k in h.fits; lost = λ k. let h = l k in h.fits }
 
-pub returns-then-j-i : goal.returns-then-j-i
-returns-then-j-i c =
+pub returns-in_default-pair : goal.returns-in_default-pair
+returns-in_default-pair c =
     let g : Ranged c.args.a = ranged _ (search rules) (search rules) (search rules) (search rules) (λ k. search rules) (λ k. search rules) in
-    agrees_at _ g _ _ _ _ (λ u. c.first-i.ensures.met_first _ _ u)
+    agrees_at _ g _ _ _ _ (λ u. c.in-Some.ensures.met_first _ _ u)
 
-pub returns-then-k-j : goal.returns-then-k-j
-returns-then-k-j c =
+pub returns-in_default-pair-2 : goal.returns-in_default-pair-2
+returns-in_default-pair-2 c =
     let g : Ranged c.args.a = ranged _ (search rules) (search rules) (search rules) (search rules) (λ k. search rules) (λ k. search rules) in
-    agrees_at _ g _ _ _ _ (λ u. c.first-i.ensures.met_first _ _ (c.pair-j.ensures.met_or c.if-j-i.false _ _ u))
+    agrees_at _ g _ _ _ _ (λ u. c.in-Some.ensures.met_first _ _ (c.in-Some-pair.ensures.met _ _ u))
 
-pub returns-then-m-k : goal.returns-then-m-k
-returns-then-m-k c =
+pub returns-in_default-pair-3 : goal.returns-in_default-pair-3
+returns-in_default-pair-3 c =
     let g : Ranged c.args.a = ranged _ (search rules) (search rules) (search rules) (search rules) (λ k. search rules) (λ k. search rules) in
     agrees_at _ g _ _ _ _
-    (λ u. c.first-i.ensures.met_first _ _ (c.pair-j.ensures.met_or c.if-j-i.false _ _ (c.pair-k.ensures.met_or c.if-k-j.false _ _ u)))
+    (λ u. c.in-Some.ensures.met_first _ _ (c.in-Some-pair.ensures.met _ _ (c.in-Some-pair-2.ensures.met _ _ u)))
 
 pub returns : goal.returns
 returns c =
     let g : Ranged c.args.a = ranged _ (search rules) (search rules) (search rules) (search rules) (λ k. search rules) (λ k. search rules) in
-    let p = c.pair-j.ensures.met_or c.if-j-i.false in
-    let q = c.pair-k.ensures.met_or c.if-k-j.false in
-    let r = c.pair-m.ensures.met_or c.if-m-k.false in
-    λ h f. agrees-up _ g _ _ _ (c.first-i.ensures.met_first _ _ (p _ _ (q _ _ (r _ _ (c.tail.ensures h f)))))
+    let p = c.in-Some-pair.ensures.met in
+    let q = c.in-Some-pair-2.ensures.met in
+    let r = c.in-Some-pair-3.ensures.met in
+    λ h f. agrees-up _ g _ _ _ (c.in-Some.ensures.met_first _ _ (p _ _ (q _ _ (r _ _ (c.tail.ensures h f)))))
