@@ -4,6 +4,7 @@ ghost use Rattle.rules.specs.declared.Device.{Device as Record};
 ghost use Rattle.rules.specs.Record.{source_at};
 ghost use Rattle.measure.specs.Rise.{ip_after, Rises, Between};
 
+use basics::Place;
 use rules::Device;
 
 // A record with IP 0, the clocks that it is past the T's first, and after how many more IP is 1.
@@ -15,20 +16,15 @@ pub struct Search {
 }
 
 // Half of the clocks that are left.
-fn halved(k: usize, s: Search) -> Search
-    requires { (k < 5) × (1 < s.left) × (s.passed + s.left ≤ 4294967295) }
+fn halved(k: Place<5>, s: Search) -> Search
+    requires { (1 < s.left) × (s.passed + s.left ≤ 4294967295) }
     ensures { ((d : Record) (n : ℕ) → Between k d n s → Between k d n result) × (result.left < s.left) }
 {
     let half = s.left / 2;
-    let before = s.device;
-    let ran = clocks::run(half, before);
-    let there = ran.device;
-    if there.sources[k].ip {
-        return Search {
-            device: before,
-            passed: s.passed,
-            left: half,
-        };
+    let there = clocks::run(half, s.device).device;
+    let i = k.index();
+    if there.sources[i].ip {
+        return Search { left: half, ..s };
     }
     Search {
         device: there,
@@ -38,12 +34,12 @@ fn halved(k: usize, s: Search) -> Search
 }
 
 // Of n clocks, the one at which IP of source k rises.
-pub(crate) fn rise(k: usize, d: Device, n: u32) -> u32
-    requires { (k < 5) × (0 < n) × (ip_after k d 0 ≡ false) × (ip_after k d n ≡ true) }
-    ensures { Rises k d n result }
+pub(crate) fn rise(k: Place<5>, device: Device, n: u32) -> u32
+    requires { (0 < n) × (ip_after k device 0 ≡ false) × (ip_after k device n ≡ true) }
+    ensures { Rises k device n result }
 {
     let mut s = Search {
-        device: d,
+        device,
         passed: 0,
         left: n,
     };

@@ -8,7 +8,8 @@ ghost use Rattle.measure.specs.Measure.{wait_at, most_clocks, stepped as stepped
 ghost use Rattle.measure.specs.Rise.{waited};
 
 use crate::{Measure, Wait, rises, waits};
-use rules::{Device, Event};
+use basics::Place;
+use rules::{Device, Event, Source};
 
 // Whether an event clears IP of the source with this command register.
 fn clears(e: Event, command: u32) -> bool
@@ -32,14 +33,17 @@ fn clears_by_data(d: Device, e: Event, p: usize) -> bool
 }
 
 // Source k in a step from d to f.
-fn stepped_at(k: usize, cleared: bool, d: Device, f: Device, m: Measure) -> Wait
-    requires { k < 5 }
+fn stepped_at(k: Place<5>, cleared: bool, d: Device, f: Device, m: Measure) -> Wait
     ensures { result ≡ moved_of (source_at d k).ip cleared (source_at f k).ip m.clocks (wait_at m k) }
 {
-    let was = d.sources[k].ip;
-    let is = f.sources[k].ip;
-    let w = m.waits[k];
-    waits::moved(was, cleared, is, m.clocks, w)
+    let i = k.index();
+    waits::moved(
+        d.sources[i].ip,
+        cleared,
+        f.sources[i].ip,
+        m.clocks,
+        m.waits[i],
+    )
 }
 
 // A step, or what is no clock and no K, from d to f.
@@ -48,28 +52,41 @@ pub(crate) fn stepped(e: Event, d: Device, f: Device, m: Measure) -> Measure
     ensures { result ≡ stepped_of (clears_of d e) d f m }
 {
     Measure {
-        clocks: m.clocks,
         waits: [
-            stepped_at(0, clears(e, 0x0C), d, f, m),
-            stepped_at(1, clears(e, 0x08) | clears_by_data(d, e, 0), d, f, m),
-            stepped_at(2, clears(e, 0x0B), d, f, m),
-            stepped_at(3, clears(e, 0x09) | clears_by_data(d, e, 1), d, f, m),
-            stepped_at(4, clears(e, 0x0A), d, f, m),
+            stepped_at(Place { at: Source::CT3 }, clears(e, 0x0C), d, f, m),
+            stepped_at(
+                Place { at: Source::A },
+                clears(e, 0x08) | clears_by_data(d, e, 0),
+                d,
+                f,
+                m,
+            ),
+            stepped_at(Place { at: Source::CT2 }, clears(e, 0x0B), d, f, m),
+            stepped_at(
+                Place { at: Source::B },
+                clears(e, 0x09) | clears_by_data(d, e, 1),
+                d,
+                f,
+                m,
+            ),
+            stepped_at(Place { at: Source::CT1 }, clears(e, 0x0A), d, f, m),
         ],
+        ..m
     }
 }
 
 // Source k over the n clocks of a T, from d to f.
 #[tactic(auto, unfolding(rules::specs::Interrupts::relined))]
-fn over(k: usize, n: u32, d: Device, f: Device, m: Measure) -> Wait
-    requires { (k < 5) × (0 < n) × (f ≡ relined (ran_of n d).device) × (m.clocks + n ≤ most_clocks) }
+fn over(k: Place<5>, n: u32, d: Device, f: Device, m: Measure) -> Wait
+    requires { (0 < n) × (f ≡ relined (ran_of n d).device) × (m.clocks + n ≤ most_clocks) }
     ensures { result ≡ waited k d m.clocks (wait_at m k) n }
 {
-    let w = m.waits[k];
-    if d.sources[k].ip {
+    let i = k.index();
+    let w = m.waits[i];
+    if d.sources[i].ip {
         return w;
     }
-    if f.sources[k].ip {
+    if f.sources[i].ip {
         let r = rises::rise(k, d, n);
         return waits::begun(m.clocks + r, w);
     }
@@ -88,11 +105,11 @@ pub(crate) fn ticked(n: u32, d: Device, f: Device, m: Measure) -> Measure
     Measure {
         clocks: m.clocks + n,
         waits: [
-            over(0, n, d, f, m),
-            over(1, n, d, f, m),
-            over(2, n, d, f, m),
-            over(3, n, d, f, m),
-            over(4, n, d, f, m),
+            over(Place { at: Source::CT3 }, n, d, f, m),
+            over(Place { at: Source::A }, n, d, f, m),
+            over(Place { at: Source::CT2 }, n, d, f, m),
+            over(Place { at: Source::B }, n, d, f, m),
+            over(Place { at: Source::CT1 }, n, d, f, m),
         ],
     }
 }
