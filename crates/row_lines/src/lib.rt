@@ -34,13 +34,10 @@ fn unreadable() -> RowEvent
 fn of_device(device: u32, e: Event) -> RowEvent
     ensures { result ≡ of_device device e }
 {
-    if rows::names(e) {
-        return RowEvent {
-            device: device,
-            event: e,
-        };
+    if !rows::names(e) {
+        return unreadable();
     }
-    unreadable()
+    RowEvent { device, event: e }
 }
 
 // And T, K and E none.
