@@ -45,6 +45,7 @@ fn first(b: &[u8], at: usize, code: u8) -> Option<usize>
 }
 
 // Whether there is a space, and a field of one byte.
+// Stays: this step and those below each need another number of bytes behind their place, so no one fact of a struct says it for all.
 fn has_one(b: &[u8], at: usize, d: u8) -> bool
     requires { at + 2 < length b.now }
     ensures { MetIf result ((d ∷ []) ∷ []) b.now at (at + 2) }

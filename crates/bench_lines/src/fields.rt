@@ -15,10 +15,7 @@ pub(crate) enum Says {
 fn is_hole(f: &[u8]) -> bool
     ensures { result ≡ is_hole f.now }
 {
-    if f.len() != 1 {
-        return false;
-    }
-    f[0] == b'-'
+    matches!(f, [b'-'])
 }
 
 #[tactic(auto, unfolding(crate::specs::Fields::decimal_in))]

@@ -8,6 +8,8 @@ use phrases::word;
 use texts::Text;
 use words::{bit_cell, either, number_cell, yes_cell};
 
+// Stays: label and cell go by a row's number, as the definitions do (ctc_words/Shown.labels, ctc_words/Shown.channel_cell); an enum of
+// facts would list each a third time.
 pub(crate) const LABELS: [[u8; 16]; 12] = [
     *b"mode            ",
     *b"factor          ",
@@ -24,6 +26,7 @@ pub(crate) const LABELS: [[u8; 16]; 12] = [
 ];
 
 // 0 is 256 in a channel that has a constant.
+// Stays: the record keeps the two fields apart (ctc_rules::Channel), and the count with either.
 #[tactic(auto, unfolding(crate::specs::Shown::full_if))]
 fn full(loaded: bool, n: u8) -> u32
     ensures { result ≡ full_if loaded n }

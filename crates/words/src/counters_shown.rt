@@ -25,6 +25,8 @@ const RETRIGGER: u8 = 2;
 // How many facts a counter has.
 pub const ROWS: usize = 16;
 
+// Stays: label and cell go by a row's number, as the definitions do (words/Shown.counter_labels, words/Shown.counter_cell); an enum of
+// facts would list each a third time.
 const LABELS: [[u8; 16]; ROWS] = [
     *b"enabled         ",
     *b"mode            ",

@@ -21,6 +21,8 @@ pub const PATTERN_ROWS: usize = 5;
 
 pub const TRANSFER_ROWS: usize = 5;
 
+// Stays: label and cell go by a row's number, here and below, as the definitions do (words/Shown.port_labels, words/Shown.port_cell); an
+// enum of facts would list each a third time.
 const PORT_LABELS: [[u8; 16]; PORT_ROWS] = [
     *b"enabled         ",
     *b"direction       ",

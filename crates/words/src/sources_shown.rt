@@ -11,6 +11,8 @@ use texts::Text;
 // How many facts a source has.
 pub const ROWS: usize = 5;
 
+// Stays: label and flag go by a row's number, as the definitions do (words/Shown.source_labels, words/Shown.source_cell); an enum of
+// facts would list each a third time.
 const LABELS: [[u8; 16]; ROWS] = [
     *b"IE              ",
     *b"IP              ",
