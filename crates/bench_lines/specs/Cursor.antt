@@ -6,14 +6,14 @@ use Rattle.bench_lines.specs.declared.fields.Says.{Says}
 use Rattle.bench_lines.specs.declared.fields.Says.TheVariants.{Number, Unmeasured, Unreadable}
 
 -- a number, and what a field says, as the definitions number them
-abbrev pub number_said : Option ℕ → ℕ
-number_said None = illegible
-number_said (Some n) = n
+abbrev pub number_read : Option ℕ → ℕ
+number_read None = illegible
+number_read (Some n) = n
 
-abbrev pub said : Says → ℕ
-said (Number n) = n
-said Unmeasured = unmeasured
-said Unreadable = illegible
+abbrev pub number_said : Says → ℕ
+number_said (Number n) = n
+number_said Unmeasured = unmeasured
+number_said Unreadable = illegible
 
 -- the fields from a place on, where there are more
 abbrev pub fields_left : List ℕ → Option ℕ → List (List ℕ)

@@ -1,7 +1,7 @@
 // An answer beside a line of BOARD.
 ghost use Rattle.std.specs.Prelude.{◌≡◌, ◌==◌, Some, None, if◌then◌else◌};
 ghost use Rattle.bench_lines.specs.Fields.{illegible};
-ghost use Rattle.bench_lines.specs.Cursor.{said};
+ghost use Rattle.bench_lines.specs.Cursor.{number_said};
 ghost use Rattle.bench_lines.specs.Compared.{answer_numbers, differs_by, compared_of, compared_kept};
 
 use crate::fields::{Says, first_field, next_field};
@@ -34,7 +34,7 @@ fn numbers(a: Answer) -> [u32; FIELDS]
 
 // Whether a field differs from an answer's number, if it can be read.
 fn differs_from(n: u32, says: Says) -> Option<bool>
-    ensures { result ≡ (if said says == illegible then None else Some (differs_by n (said says))) }
+    ensures { result ≡ (if number_said says == illegible then None else Some (differs_by n (number_said says))) }
 {
     match says {
         Says::Number(m) => Some(m != n),

@@ -1,7 +1,7 @@
 // The fields of a line of BOARD.
 ghost use Rattle.std.specs.Prelude.{◌≡◌, ◌≤◌, IfSome, length, drop, get_or};
 ghost use Rattle.bench_lines.specs.Fields.{fields_of, hole, is_hole, decimal_in, pair_in, nibble_in, number_at, says_at};
-ghost use Rattle.bench_lines.specs.Cursor.{number_said, said, fields_left, Ends};
+ghost use Rattle.bench_lines.specs.Cursor.{number_read, number_said, fields_left, Ends};
 
 // What a field says: a number, that it was not measured, or nothing that can be read.
 #[derive(Clone, Copy, Debug, PartialEq, Eq)]
@@ -20,7 +20,7 @@ fn is_hole(f: &[u8]) -> bool
 
 #[tactic(auto, unfolding(crate::specs::Fields::decimal_in))]
 fn decimal_in(most: u32, f: &[u8]) -> Option<u32>
-    ensures { number_said result ≡ decimal_in most f.now }
+    ensures { number_read result ≡ decimal_in most f.now }
 {
     let n = f.len();
     if n == 0 {
@@ -38,7 +38,7 @@ fn decimal_in(most: u32, f: &[u8]) -> Option<u32>
 
 #[tactic(auto, unfolding(crate::specs::Fields::pair_in))]
 fn pair_in(f: &[u8]) -> Option<u32>
-    ensures { number_said result ≡ pair_in f.now }
+    ensures { number_read result ≡ pair_in f.now }
 {
     if f.len() != 2 {
         return None;
@@ -50,7 +50,7 @@ fn pair_in(f: &[u8]) -> Option<u32>
 
 #[tactic(auto, unfolding(crate::specs::Fields::nibble_in))]
 fn nibble_in(f: &[u8]) -> Option<u32>
-    ensures { number_said result ≡ nibble_in f.now }
+    ensures { number_read result ≡ nibble_in f.now }
 {
     if f.len() != 1 {
         return None;
@@ -61,7 +61,7 @@ fn nibble_in(f: &[u8]) -> Option<u32>
 
 #[tactic(auto, unfolding(crate::specs::Fields::number_at))]
 fn number_at(place: usize, f: &[u8]) -> Option<u32>
-    ensures { number_said result ≡ number_at place f.now }
+    ensures { number_read result ≡ number_at place f.now }
 {
     match place {
         0 => decimal_in(255, f),
@@ -74,7 +74,7 @@ fn number_at(place: usize, f: &[u8]) -> Option<u32>
 
 #[tactic(auto, unfolding(crate::specs::Fields::says_at))]
 fn says_at(place: usize, f: &[u8]) -> Says
-    ensures { said result ≡ says_at place f.now }
+    ensures { number_said result ≡ says_at place f.now }
 {
     if is_hole(f) {
         return Says::Unmeasured;
@@ -116,7 +116,7 @@ pub(crate) fn first_field(line: &[u8]) -> Option<usize>
 // The field at a place of the answer, from a place of the line on; where there are no more, one that is not measured.
 pub(crate) fn next_field(line: &[u8], at: Option<usize>, place: usize) -> Field
     requires { IfSome at (λ n. n ≤ length line.now) }
-    ensures says_value { said result.says ≡ says_at place (get_or (fields_left line.now at) 0 hole) }
+    ensures says_value { number_said result.says ≡ says_at place (get_or (fields_left line.now at) 0 hole) }
     ensures next_value { fields_left line.now result.next ≡ drop 1 (fields_left line.now at) }
     ensures next_in_bounds { IfSome result.next (λ n. n ≤ length line.now) }
 {
