@@ -3,36 +3,9 @@ ghost use Rattle.std.specs.Prelude.{◌≡◌};
 ghost use Rattle.rules.specs.Report.{sums, nums};
 ghost use Rattle.rules.specs.Step.{reported as reported_of};
 ghost use Rattle.theorems.specs.Ticks.{on_top};
-ghost use Rattle.clocks.specs.Room.{RoomIn, Room, BothIn, Both};
+ghost use Rattle.clocks.specs.Room.{Room, BothIn, Both};
 
 use rules::{Ran, Report, Stepped};
-
-#[tactic(auto, unfolding(rules::specs::Report::sums, rules::specs::Report::nums))]
-fn added(n: [u32; 3], t: [bool; 3]) -> [u32; 3]
-    requires { RoomIn 1 n }
-    ensures { result ≡ sums n (nums t) }
-{
-    [
-        n[0] + u32::from(t[0]),
-        n[1] + u32::from(t[1]),
-        n[2] + u32::from(t[2]),
-    ]
-}
-
-// The report so far, with that of a step.
-#[tactic(auto, unfolding(rules::specs::Step::reported, rules::specs::Report::reports_added))]
-pub(crate) fn reported(r: Report, s: Stepped) -> Ran
-    requires { Room 1 r }
-    ensures { result ≡ reported_of r s }
-{
-    Ran {
-        device: s.device,
-        report: Report {
-            terminals: added(r.terminals, s.terminals),
-            lost: added(r.lost, s.lost),
-        },
-    }
-}
 
 #[tactic(auto, unfolding(rules::specs::Report::sums))]
 fn both(n: [u32; 3], m: [u32; 3]) -> [u32; 3]
@@ -55,4 +28,28 @@ pub(crate) fn on_top(r: Report, s: Ran) -> Ran
             lost: both(r.lost, s.report.lost),
         },
     }
+}
+
+// 1 for each that is true.
+#[tactic(auto, unfolding(rules::specs::Report::nums))]
+fn nums(t: [bool; 3]) -> [u32; 3]
+    ensures { result ≡ nums t }
+{
+    t.map(u32::from)
+}
+
+// The report so far, with that of a step.
+#[tactic(auto, unfolding(rules::specs::Step::reported, theorems::specs::Ticks::on_top))]
+pub(crate) fn reported(r: Report, s: Stepped) -> Ran
+    requires { Room 1 r }
+    ensures { result ≡ reported_of r s }
+{
+    let ran = Ran {
+        device: s.device,
+        report: Report {
+            terminals: nums(s.terminals),
+            lost: nums(s.lost),
+        },
+    };
+    on_top(r, ran)
 }
