@@ -15,7 +15,6 @@ use Rattle.chip.specs.declared.Chip.{Chip}
 use Rattle.rules.specs.declared.Answer.{Answer}
 use Rattle.rules.specs.declared.Outcome.{Outcome}
 use Rattle.chip.specs.Chips.{event_chip}
-use Rattle.chip.proofs.Kept.{Good, event-good}
 use Rattle.lines.specs.Lines.{event_in, line_of}
 use Rattle.lines.specs.Pieces.{feed_at}
 use Rattle.bench_lines.specs.Agreed.{agreed_to}
@@ -68,11 +67,3 @@ module _ (a : Abreast) (read measured : List ℕ) where
           → ((cond t gone a).agreed ≡ a.agreed) ⊎ (((cond t gone a).agreed ≡ a.agreed + 1) × (a.agreed < 18446744073709551615))
       by-test true e = inr (refl, ltb-true a.agreed 18446744073709551615 (triple (ltb (feed_at rest) (length rest)) (ltb a.agreed 18446744073709551615) (not (after == a.board)) e).1)
       by-test false e = inl refl
-
-  pub onward-good : Good a.device → Good (onward_of a read measured).device
-  unfolding onward_of
-  onward-good g = by-test (ltb (feed_at rest) (length rest) && ltb a.agreed 18446744073709551615 && not (after == a.board))
-    where
-      by-test : (t : Bool) → Good (cond t gone a).device
-      by-test true = event-good a.device (event_in (line_of (take (feed_at rest) rest))) g
-      by-test false = g

@@ -4,7 +4,7 @@
 mod parting;
 
 use bench_lines::Compared;
-use chip::Chip;
+use chip::{Chip, Vetted};
 use parting::Stop;
 use rules::Answer;
 use std::env::FillError;
@@ -13,9 +13,9 @@ use std::rt::{Env, Files};
 use streams::{BUFFER, print_decimal, write_all};
 
 // A device after an event, the model's answer to it, and that answer beside the board's.
-#[derive(Clone, Copy)]
+#[derive(Drop)]
 pub struct Turn {
-    pub device: Chip,
+    pub device: Vetted,
     pub model: Answer,
     pub compared: Option<Compared>,
 }

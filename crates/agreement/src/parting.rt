@@ -1,12 +1,10 @@
 // Where a board and the model part.
-ghost use Rattle.std.specs.Prelude.{◌≡◌, true, ◌≤◌, length};
-ghost use Rattle.rules.specs.Record.{Shaped};
-ghost use Rattle.chip.specs.Chips.{sound_chip};
+ghost use Rattle.std.specs.Prelude.{◌≡◌, ◌≤◌, length};
 ghost use Rattle.agreement.specs.Turns.{beside_of, onward_of};
 
 use crate::Turn;
 use bench_lines::FIELDS;
-use chip::Chip;
+use chip::{Chip, Vetted};
 use console::print;
 use input::Reader;
 use std::io::{Read, Write};
@@ -23,47 +21,40 @@ pub(crate) struct Stop {
     pub readable: bool,
 }
 
-// Says a line of TRACE to the device, which may be known to be sound, and compares the answer with a line of BOARD.
+// Says a line of TRACE to the device, and compares the answer with a line of BOARD.
 #[tactic(auto, unfolding(crate::specs::Turns::beside_of))]
-fn beside(sound: bool, d: Chip, event: Text, board: Text) -> Turn
-    requires { sound ≡ true → sound_chip d ≡ true }
-    ensures { result ≡ beside_of d event board }
+fn beside(d: &Vetted, event: Text, board: Text) -> Turn
+    ensures { result ≡ beside_of d.now event board }
 {
-    let o = chip::known(sound, d, lines::event_of_line(event));
-    let e = o.device;
-    let a = o.answer;
-    let c = bench_lines::compare_kept(a, board);
+    let o = d.event(lines::event_of_line(event));
     Turn {
-        device: e,
-        model: a,
-        compared: c,
+        device: o.device,
+        model: o.answer,
+        compared: bench_lines::compare_kept(o.answer, board),
     }
 }
 
 // Where two files have come to side by side: the device, the places in what was read of them, and how many lines agree.
-#[derive(Clone, Copy)]
+#[derive(Drop)]
 pub(crate) struct Abreast {
-    pub device: Chip,
+    pub device: Vetted,
     pub event: usize,
     pub board: usize,
     pub agreed: u64,
 }
 
 // One line more of both, read where they stand; the same, if one of them does not end there, or they do not agree.
-fn onward(sound: bool, a: Abreast, read: &[u8], measured: &[u8]) -> Abreast
-    requires { sound ≡ true → sound_chip a.device ≡ true }
+fn onward(a: Abreast, read: &[u8], measured: &[u8]) -> Abreast
     ensures { result ≡ onward_of a read.now measured.now }
 {
     let i = a.event;
     let e = lines::line_end(read, i);
     if (e < read.len()) & (a.agreed < u64::MAX) {
-        let o = chip::known(sound, a.device, lines::event_of(&read[i..e]));
-        let d = o.device;
-        let m = o.answer;
-        let next = bench_lines::agreed_to(m, measured, a.board);
+        let o = a.device.event(lines::event_of(&read[i..e]));
+        let next = bench_lines::agreed_to(o.answer, measured, a.board);
         if next != a.board {
             return Abreast {
-                device: d,
+                device: o.device,
                 event: e + 1,
                 board: next,
                 agreed: a.agreed + 1,
@@ -74,16 +65,15 @@ fn onward(sound: bool, a: Abreast, read: &[u8], measured: &[u8]) -> Abreast
 }
 
 // All lines that agree and end in what was read of both.
-fn onward_all(sound: bool, start: Abreast, read: &[u8], measured: &[u8]) -> Abreast
-    requires { sound ≡ true → sound_chip start.device ≡ true }
-    ensures { (sound ≡ true → Shaped result.device.device.core × (sound_chip result.device ≡ true)) × (start.agreed ≤ result.agreed) }
+fn onward_all(start: Abreast, read: &[u8], measured: &[u8]) -> Abreast
+    ensures { start.agreed ≤ result.agreed }
 {
     let mut a = start;
     let mut going = true;
     while going {
-        let b = onward(sound, a, read, measured);
-        going = b.agreed != a.agreed;
-        a = b;
+        let before = a.agreed;
+        a = onward(a, read, measured);
+        going = a.agreed != before;
     }
     a
 }
@@ -124,7 +114,6 @@ fn print_fields<W: Write>(out: &mut W, differs: [bool; FIELDS]) {
 
 // A line that is readable and does not agree, and the device before it.
 fn print_parted<W: Write>(out: &mut W, line: u64, d: Chip, event: Text, board: Text, t: Turn) {
-    let m = t.model;
     let Some(c) = t.compared else {
         return;
     };
@@ -134,7 +123,7 @@ fn print_parted<W: Write>(out: &mut W, line: u64, d: Chip, event: Text, board: T
     print_line(out, b"event           ", event);
     print_line(out, b"board           ", board);
     write_all(out, b"model           ");
-    print(out, texts::answer_text(m));
+    print(out, texts::answer_text(t.model));
     print_fields(out, c.differs);
     write_all(out, b"before this event\n");
     image_files::show_device(d, out);
@@ -153,8 +142,7 @@ pub(crate) fn part<R: Read, S: Read, W: Write>(
     let mut measured = [0; LARGE_BUFFER];
     let mut r = input::start();
     let mut s = input::start();
-    let sound = chip::sound(d);
-    let mut device = d;
+    let mut device = Vetted::of(d);
     let mut agreed: u64 = 0;
     while agreed < u64::MAX {
         let n = input::next_line(r, events, &mut read);
@@ -170,9 +158,9 @@ pub(crate) fn part<R: Read, S: Read, W: Write>(
                 readable: true,
             };
         }
-        let t = beside(sound, device, n.text, m.text);
+        let t = beside(&device, n.text, m.text);
         if !t.compared.is_some_and(|c| c.agrees) {
-            print_parted(out, agreed + 1, device, n.text, m.text, t);
+            print_parted(out, agreed + 1, device.device(), n.text, m.text, t);
             return Stop {
                 agreed,
                 line: agreed + 1,
@@ -183,14 +171,13 @@ pub(crate) fn part<R: Read, S: Read, W: Write>(
         }
         let i = ready(r, &read);
         let j = ready(s, &measured);
-        let after = t.device;
         let start = Abreast {
-            device: after,
+            device: t.device,
             event: r.at,
             board: s.at,
             agreed: agreed + 1,
         };
-        let a = onward_all(sound, start, &read[..i], &measured[..j]);
+        let a = onward_all(start, &read[..i], &measured[..j]);
         device = a.device;
         r.at = a.event;
         s.at = a.board;

@@ -10,10 +10,10 @@ use rules::{Event, Outcome};
 pub fn sound(c: Chip) -> bool
     ensures { result ≡ sound_chip c }
 {
-    if c.z8536 {
-        return z8536::sound(c.device);
+    match c {
+        Chip::Z8036(d) => refusals::sound(d),
+        Chip::Z8536(z) => z8536::sound(z),
     }
-    refusals::sound(c.core())
 }
 
 // The event call; where `sure` says that the record is known to be sound, a Z8036 does not ask again.
@@ -21,13 +21,14 @@ pub fn sound(c: Chip) -> bool
 pub fn known(sure: bool, c: Chip, e: Event) -> Outcome<Chip>
     ensures { result ≡ known_chip sure c e }
 {
-    if sure & !c.z8536 {
-        let o = event::known(c.core(), e);
-        let a = o.answer;
-        return Outcome {
-            device: Chip::of_z8036(o.device),
-            answer: a,
-        };
+    match c {
+        Chip::Z8036(d) if sure => {
+            let o = event::known(d, e);
+            Outcome {
+                device: Chip::Z8036(o.device),
+                answer: o.answer,
+            }
+        }
+        _ => crate::event(c, e),
     }
-    crate::event(c, e)
 }

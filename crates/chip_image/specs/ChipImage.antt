@@ -8,18 +8,22 @@ use Rattle.image.specs.declared.Restored.{Restored}
 use Rattle.image.specs.Image.{save_code, saved_of, restored_of}
 use Rattle.image.specs.Pointed.{save_code_z8536, saved_z8536, restored_z8536}
 use Rattle.chip.specs.declared.Chip.{Chip}
-use Rattle.chip.specs.Chips.{of_z8036, of_z8536, core_of}
+use Rattle.chip.specs.declared.Chip.TheVariants.{Z8036 as a_z8036, Z8536 as a_z8536}
+use Rattle.chip.specs.Chips.{of_z8036, of_z8536}
 
 -- how long its image is
 unfoldable pub length_chip : Chip → ℕ
-length_chip c = if c.z8536 then length_of layout3 else length_of (layout_of (core_of c))
+length_chip (a_z8036 d) = length_of (layout_of d)
+length_chip (a_z8536 z) = length_of layout3
 
 -- ---- save, into a buffer of n bytes, and the buffer after it
 unfoldable pub save_code_chip : Chip → ℕ → ℕ
-save_code_chip c n = if c.z8536 then save_code_z8536 c.device n else save_code (core_of c) n
+save_code_chip (a_z8036 d) n = save_code d n
+save_code_chip (a_z8536 z) n = save_code_z8536 z n
 
 unfoldable pub saved_chip : Chip → List ℕ → List ℕ
-saved_chip c e = if c.z8536 then saved_z8536 c.device e else saved_of (core_of c) e
+saved_chip (a_z8036 d) e = saved_of d e
+saved_chip (a_z8536 z) e = saved_z8536 z e
 
 -- ---- restore: an image that begins with 03 is a Z8536's
 abbrev pub tells_z8536 : List ℕ → Bool

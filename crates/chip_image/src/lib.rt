@@ -15,11 +15,10 @@ use z8536::Z8536;
 pub fn image_len(c: Chip) -> usize
     ensures { result ≡ length_chip c }
 {
-    if c.z8536 {
-        return Z8536::IMAGE;
+    match c {
+        Chip::Z8036(d) => Device::image_len(d.version),
+        Chip::Z8536(_) => Z8536::IMAGE,
     }
-    let d = c.core();
-    Device::image_len(d.version)
 }
 
 // Saves a device into the first bytes of a buffer, as many as its image has. Codes: 9, then 7, else 0. A refused save leaves the
@@ -28,10 +27,10 @@ pub fn image_len(c: Chip) -> usize
 pub fn save(c: Chip, buf: &mut [u8]) -> Result<(), Refusal>
     ensures { (code_in result ≡ save_code_chip c (length buf.old)) × (buf.new ≡ saved_chip c buf.old) }
 {
-    if c.z8536 {
-        return image::save_z8536(c.device, buf);
+    match c {
+        Chip::Z8036(d) => image::save(d, buf),
+        Chip::Z8536(z) => image::save_z8536(z, buf),
     }
-    image::save(c.core(), buf)
 }
 
 // Restores the device of an image; its first byte tells which. A refused restore gives the fresh one.
@@ -43,12 +42,12 @@ pub fn restore(s: &[u8]) -> Restored<Chip>
         let r = image::restore_z8536(s);
         return Restored {
             code: r.code,
-            device: Chip::of_z8536(r.device),
+            device: Chip::from(r.device),
         };
     }
     let r = image::restore(s);
     Restored {
         code: r.code,
-        device: Chip::of_z8036(r.device),
+        device: Chip::from(r.device),
     }
 }

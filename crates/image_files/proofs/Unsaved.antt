@@ -7,7 +7,8 @@ use Rattle.z8536.specs.Z8536.{sound_z8536}
 use Rattle.image.specs.Image.{save_code}
 use Rattle.image.specs.Pointed.{save_code_z8536}
 use Rattle.chip.specs.declared.Chip.{Chip}
-use Rattle.chip.specs.Chips.{core_of, sound_chip}
+use Rattle.chip.specs.declared.Chip.TheVariants.{Z8036, Z8536}
+use Rattle.chip.specs.Chips.{sound_chip}
 use Rattle.chip_image.specs.ChipImage.{save_code_chip}
 use Rattle.ctc_rules.specs.declared.Ctc.{Ctc}
 use Rattle.ctc_rules.specs.Sound.{sound_ctc}
@@ -16,16 +17,15 @@ use Rattle.ctc_image.proofs.Codes.{save-9}
 
 pub saved_sound : (d : Chip) (n : ℕ) → save_code_chip d n ≡ 0 → sound_chip d ≡ true
 unfolding sound_chip save_code_chip save_code save_code_z8536
-saved_sound d n e = by-kind d.z8536 e
+saved_sound c n e = by-kind c e
   where
     sure : (b : Bool) (m : ℕ) → (if not b then 9 else m) ≡ 0 → b ≡ true
     sure true m k = refl
     sure false m k = absurd (omega arith)
 
-    by-kind : (z : Bool) → (if z then save_code_z8536 d.device n else save_code (core_of d) n) ≡ 0
-        → (if z then sound_z8536 d.device else sound_of (core_of d)) ≡ true
-    by-kind true k = sure (sound_z8536 d.device) _ k
-    by-kind false k = sure (sound_of (core_of d)) _ k
+    by-kind : (c : Chip) → save_code_chip c n ≡ 0 → sound_chip c ≡ true
+    by-kind (Z8036 d) k = sure (sound_of d) _ k
+    by-kind (Z8536 z) k = sure (sound_z8536 z) _ k
 
 pub saved_sound_ctc : (d : Ctc) (n : ℕ) → save_code_ctc d n ≡ 0 → sound_ctc d ≡ true
 saved_sound_ctc d n e = by-sound (sound_ctc d) refl

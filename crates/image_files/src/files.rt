@@ -69,7 +69,7 @@ fn of_ctc(d: Ctc) -> Loaded
     ensures { result ≡ loaded_ctc d }
 {
     Loaded {
-        device: Chip::of_z8036(Device::fresh()),
+        device: Chip::from(Device::fresh()),
         ctc: d,
         is_ctc: true,
         ok: true,
@@ -154,10 +154,10 @@ pub fn load<F: Files, W: Write>(files: &F, path: &[u8], report: &mut W) -> Loade
     ensures value_3 { is_dash_ctc path.now ≡ true → result ≡ fresh_loaded_ctc }
 {
     if image::same_bytes(path, b"-") {
-        return of_chip(Chip::of_z8036(Device::fresh()));
+        return of_chip(Chip::from(Device::fresh()));
     }
     if image::same_bytes(path, b"-z8536") {
-        return of_chip(Chip::of_z8536(Z8536::fresh()));
+        return of_chip(Chip::from(Z8536::fresh()));
     }
     if image::same_bytes(path, b"-ctc") {
         return of_ctc(Ctc::fresh());

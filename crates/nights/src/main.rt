@@ -47,12 +47,13 @@ fn refusals(rt: &HostRuntime) {
 }
 
 fn same(c: Chip, d: Chip) -> bool {
-    let y = c.device;
-    let z = d.device;
-    (c.z8536 == d.z8536)
-        & (y.pointer == z.pointer)
-        & (y.pointed == z.pointed)
-        & record::same(y.core, z.core)
+    match (c, d) {
+        (Chip::Z8036(a), Chip::Z8036(b)) => record::same(a, b),
+        (Chip::Z8536(a), Chip::Z8536(b)) => {
+            (a.pointer == b.pointer) & (a.pointed == b.pointed) & record::same(a.core, b.core)
+        }
+        _ => false,
+    }
 }
 
 fn same_ctc(c: Ctc, d: Ctc) -> bool {

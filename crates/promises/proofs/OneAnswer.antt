@@ -135,9 +135,12 @@ use Rattle.ctc_lines.specs.contracts.answer_text as ctc-lines·answer-text
 use Rattle.ctc_words.specs.contracts.line as ctc-words·line
 use Rattle.image.specs.contracts.save_z8536 as image·save-z8536
 use Rattle.image.specs.contracts.restore_z8536 as image·restore-z8536
-use Rattle.chip.specs.contracts.Chip.of_z8036 as chip·Chip-of-z8036
-use Rattle.chip.specs.contracts.Chip.of_z8536 as chip·Chip-of-z8536
+use Rattle.chip.specs.contracts.ChipFromDevice.from as chip·Chip-from-Device
+use Rattle.chip.specs.contracts.ChipFromZ8536.from as chip·Chip-from-Z8536
 use Rattle.chip.specs.contracts.Chip.core as chip·Chip-core
+use Rattle.chip.specs.contracts.Vetted.of as chip·Vetted-of
+use Rattle.chip.specs.contracts.Vetted.device as chip·Vetted-device
+use Rattle.chip.specs.contracts.Vetted.event as chip·Vetted-event
 use Rattle.chip.specs.contracts.event as chip·event
 use Rattle.chip.specs.contracts.sound as chip·sound
 use Rattle.chip.specs.contracts.known as chip·known
@@ -488,11 +491,11 @@ module _ {M : Type 1} (𝓤 : Ura M) where
   pub image-restore-z8536 : OneResult 𝓤 image·restore-z8536.ended image·restore-z8536.clauses
   image-restore-z8536 = one-result 𝓤 image·restore-z8536.ended image·restore-z8536.clauses (λ κs a. restored_z8536 a.0.now) refl
 
-  pub chip-Chip-of-z8036 : OneResult 𝓤 chip·Chip-of-z8036.ended chip·Chip-of-z8036.clauses
-  chip-Chip-of-z8036 = one-result 𝓤 chip·Chip-of-z8036.ended chip·Chip-of-z8036.clauses (λ κs a. of_z8036 a.0) refl
+  pub chip-Chip-from-Device : OneResult 𝓤 chip·Chip-from-Device.ended chip·Chip-from-Device.clauses
+  chip-Chip-from-Device = one-result 𝓤 chip·Chip-from-Device.ended chip·Chip-from-Device.clauses (λ κs a. of_z8036 a.0) refl
 
-  pub chip-Chip-of-z8536 : OneResult 𝓤 chip·Chip-of-z8536.ended chip·Chip-of-z8536.clauses
-  chip-Chip-of-z8536 = one-result 𝓤 chip·Chip-of-z8536.ended chip·Chip-of-z8536.clauses (λ κs a. of_z8536 a.0) refl
+  pub chip-Chip-from-Z8536 : OneResult 𝓤 chip·Chip-from-Z8536.ended chip·Chip-from-Z8536.clauses
+  chip-Chip-from-Z8536 = one-result 𝓤 chip·Chip-from-Z8536.ended chip·Chip-from-Z8536.clauses (λ κs a. of_z8536 a.0) refl
 
   pub chip-Chip-core : OneResult 𝓤 chip·Chip-core.ended chip·Chip-core.clauses
   chip-Chip-core = one-result 𝓤 chip·Chip-core.ended chip·Chip-core.clauses (λ κs a. core_of a.0) refl
@@ -505,6 +508,15 @@ module _ {M : Type 1} (𝓤 : Ura M) where
 
   pub chip-known : OneResult 𝓤 chip·known.ended chip·known.clauses
   chip-known = one-result 𝓤 chip·known.ended chip·known.clauses (λ κs a. known_chip a.0 a.1.0 a.1.1.0) refl
+
+  pub chip-Vetted-of : OneResult 𝓤 chip·Vetted-of.ended chip·Vetted-of.clauses
+  chip-Vetted-of = one-result 𝓤 chip·Vetted-of.ended chip·Vetted-of.clauses (λ κs a. a.0) refl
+
+  pub chip-Vetted-device : OneResult 𝓤 chip·Vetted-device.ended chip·Vetted-device.clauses
+  chip-Vetted-device = one-result 𝓤 chip·Vetted-device.ended chip·Vetted-device.clauses (λ κs a. a.0.now) refl
+
+  pub chip-Vetted-event : OneResult 𝓤 chip·Vetted-event.ended chip·Vetted-event.clauses
+  chip-Vetted-event = one-result 𝓤 chip·Vetted-event.ended chip·Vetted-event.clauses (λ κs a. event_chip a.0.now a.1.0) refl
 
   pub chip-image-image-len : OneResult 𝓤 chip-image·image-len.ended chip-image·image-len.clauses
   chip-image-image-len = one-result 𝓤 chip-image·image-len.ended chip-image·image-len.clauses (λ κs a. length_chip a.0) refl

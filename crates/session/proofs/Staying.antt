@@ -8,7 +8,8 @@ use mathlib.Core.List.{List, [], ◌∷◌}
 use lib.ListN.{take, drop}
 use Rattle.chip.specs.declared.Chip.{Chip}
 use Rattle.chip.specs.Chips.{sound_chip, event_chip}
-use Rattle.chip.proofs.Kept.{Good, event-good}
+use Rattle.chip.proofs.Kept.{event-good}
+use Rattle.chip.specs.Vetting.{Good}
 use Rattle.lines.specs.Lines.{event_in}
 use Rattle.lines.specs.Pieces.{said_in}
 use Rattle.rules.specs.declared.Event.{Event}

@@ -24,19 +24,16 @@ use Rattle.session.specs.Sessions.{outcome_by, answer_bytes, device_after, start
 use Rattle.session.specs.declared.Fed.{Fed}
 use Rattle.session.specs.declared.Session.{Session}
 use Rattle.session.specs.declared.Told.{Told}
-use Rattle.chip.specs.Chips.{event_chip}
 use Rattle.chip.specs.declared.Chip.{Chip}
-use Rattle.rules.specs.declared.Event.{Event}
+use Rattle.rules.specs.declared.Answer.{Answer}
+use Rattle.rules.specs.declared.Outcome.{Outcome}
 
--- what is told of an event: the device, the buffer, and the place after the answer
-abbrev pub told_device : Chip → Event → Chip
-told_device d e = (event_chip d e).device
+-- what is told of an event: the buffer, and the place after the answer
+abbrev pub told_bytes : List ℕ → ℕ → Outcome Chip Answer → List ℕ
+told_bytes out at o = laid_of out at (answer_text o.answer)
 
-abbrev pub told_bytes : Chip → List ℕ → ℕ → Event → List ℕ
-told_bytes d out at e = laid_of out at (answer_text (event_chip d e).answer)
-
-abbrev pub told_len : Chip → List ℕ → ℕ → Event → ℕ
-told_len d out at e = cond (fits out at (answer_text (event_chip d e).answer)) (at + length (answer_text (event_chip d e).answer)) at
+abbrev pub told_len : List ℕ → ℕ → Outcome Chip Answer → ℕ
+told_len out at o = cond (fits out at (answer_text o.answer)) (at + length (answer_text o.answer)) at
 
 -- a line's bytes are among those that there are, and some where there are any
 pub line-short : (m : List ℕ) → line_len m ≤ length m

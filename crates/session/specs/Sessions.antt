@@ -15,6 +15,7 @@ use Rattle.rules.specs.declared.Event.{Event}
 use Rattle.texts.specs.declared.Text.{Text}
 use Rattle.session.specs.declared.Fed.{Fed}
 use Rattle.session.specs.declared.Session.{Session}
+use Rattle.session.specs.declared.Taken.{Taken}
 use Rattle.session.specs.declared.Told.{Told}
 
 -- a line that is kept, said to a device
@@ -85,6 +86,10 @@ finished_by s out =
 -- ---- one line of a piece, from place i on
 unfoldable pub line_in : List ℕ → ℕ → List ℕ
 line_in piece i = take (line_len (drop i piece)) (drop i piece)
+
+-- what is handed back of what was taken so far
+abbrev pub fed_of : Taken → Fed
+fed_of t = record { session = record { device = t.device; text = t.text }; next = t.next; len = t.len }
 
 -- what is handed on after it
 unfoldable pub line_fed : Fed → List ℕ → Fed

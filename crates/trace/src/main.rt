@@ -5,6 +5,6 @@ use chip::Chip;
 use rules::Device;
 
 fn main(rt: HostRuntime) {
-    let d = Chip::of_z8036(Device::fresh());
+    let d = Chip::from(Device::fresh());
     console::run(d, &mut rt.stdin(), &mut rt.stdout());
 }

@@ -9,7 +9,6 @@ use Rattle.chip.specs.declared.Chip.{Chip}
 use Rattle.rules.specs.declared.Answer.{Answer}
 use Rattle.rules.specs.declared.Outcome.{Outcome}
 use Rattle.chip.specs.Chips.{event_chip}
-use Rattle.chip.proofs.Kept.{known-chip}
 use Rattle.lines.specs.Lines.{event_in, line_of}
 use Rattle.lines.specs.Pieces.{feed_at}
 use Rattle.bench_lines.specs.Agreed.{agreed_to}
@@ -23,9 +22,8 @@ returns-then-next-a c =
     let measured = c.args.measured.now in
     let m = drop a.event read in
     let long : c.line_end-e.result - a.event ≡ feed_at m = omega (arith, c.line_end-e.ensures) in
-    let o : c.known-o.result ≡ told a read measured =
-    c.known-o.ensures ∙ known-chip _ a.device _ c.requires
-    ∙ ap (event_chip a.device) (c.event_of.ensures ∙ ap (λ (n : ℕ). event_in (line_of (take n m))) long) in
+    let o : c.event-o.result ≡ told a read measured =
+    c.event-o.ensures ∙ ap (event_chip a.device) (c.event_of.ensures ∙ ap (λ (n : ℕ). event_in (line_of (take n m))) long) in
     let n = c.agreed_to-next.ensures ∙ ap (λ (x : Outcome Chip Answer). agreed_to x.answer measured a.board) o in
     let tests = both _ _ c.if-e-read.true in
     let inside : c.line_end-e.result < length read = ltb-true _ _ tests.0 in
@@ -40,9 +38,8 @@ returns-else-next-a c =
     let measured = c.args.measured.now in
     let m = drop a.event read in
     let long : c.line_end-e.result - a.event ≡ feed_at m = omega (arith, c.line_end-e.ensures) in
-    let o : c.known-o.result ≡ told a read measured =
-    c.known-o.ensures ∙ known-chip _ a.device _ c.requires
-    ∙ ap (event_chip a.device) (c.event_of.ensures ∙ ap (λ (n : ℕ). event_in (line_of (take n m))) long) in
+    let o : c.event-o.result ≡ told a read measured =
+    c.event-o.ensures ∙ ap (event_chip a.device) (c.event_of.ensures ∙ ap (λ (n : ℕ). event_in (line_of (take n m))) long) in
     let n = c.agreed_to-next.ensures ∙ ap (λ (x : Outcome Chip Answer). agreed_to x.answer measured a.board) o in
     stays a read measured (sym n ∙ c.if-next-a.false)
 
