@@ -113,7 +113,7 @@ fn print_fields<W: Write>(out: &mut W, differs: [bool; FIELDS]) {
 }
 
 // A line that is readable and does not agree, and the device before it.
-fn print_parted<W: Write>(out: &mut W, line: u64, d: Chip, event: Text, board: Text, t: Turn) {
+fn print_parted<W: Write>(out: &mut W, line: u64, d: Chip, event: Text, board: Text, t: &Turn) {
     let Some(c) = t.compared else {
         return;
     };
@@ -160,7 +160,7 @@ pub(crate) fn part<R: Read, S: Read, W: Write>(
         }
         let t = beside(&device, n.text, m.text);
         if !t.compared.is_some_and(|c| c.agrees) {
-            print_parted(out, agreed + 1, device.device(), n.text, m.text, t);
+            print_parted(out, agreed + 1, device.device(), n.text, m.text, &t);
             return Stop {
                 agreed,
                 line: agreed + 1,

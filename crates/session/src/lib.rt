@@ -63,7 +63,7 @@ fn told_on(f: Taken, next: usize, e: Event, out: &mut [u8]) -> Taken
     let o = f.device.event(e);
     Taken {
         device: o.device,
-        text: texts::no_text(),
+        text: Text::new(),
         next,
         len: texts::write_answer(o.answer, out, f.len),
     }
