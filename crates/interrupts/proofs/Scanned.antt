@@ -18,13 +18,13 @@ use Rattle.rules.specs.Registers.{mie}
 use Rattle.rules.specs.Interrupts.{first_of, first, served, pending, requests, requester}
 use Rattle.basics.proofs.Lists.{five}
 use Rattle.basics.proofs.Truth.{rows, all2, all5, all8, same}
-use Rattle.interrupts.specs.Order.{one_of}
+use Rattle.interrupts.specs.Order.{of_five}
 
 -- ---- the place that `position` finds
 in-order : (a b c d e : Bool)
     → (let n = cond (not a) (1 + cond (not b) (1 + cond (not c) (1 + cond (not d) (1 + cond (not e) 1 0) 0) 0) 0) 0 in
     cond (ltb n 5) (Some n) None)
-    ≡ one_of (first_of a b c d e)
+    ≡ of_five (first_of a b c d e)
 unfolding first_of
 in-order true b c d e = refl
 in-order false true c d e = refl
@@ -34,7 +34,7 @@ in-order false false false false true = refl
 in-order false false false false false = refl
 
 pub position-is : {A : Type 0} (test : A → Bool) (x : A) (l : List A) → length l ≡ 5
-    → cond (ltb (position_or_len test l) (length l)) (Some (position_or_len test l)) None ≡ one_of (first (λ k. test (get_or l k x)))
+    → cond (ltb (position_or_len test l) (length l)) (Some (position_or_len test l)) None ≡ of_five (first (λ k. test (get_or l k x)))
 unfolding first
 position-is test x l h =
     ap (λ (m : List _). cond (ltb (position_or_len test m) (length m)) (Some (position_or_len test m)) None) (five x l h)
@@ -45,10 +45,10 @@ unfolding first_of
 first-le a b c d e = leb→le _ _ (all5 (λ a b c d e. leb (cond a 0 (cond b 1 (cond c 2 (cond d 3 (cond e 4 5))))) 5) tt a b c d e)
 
 -- a place of five, taken for a number below 5
-pub as_place : (n k : ℕ) → n ≤ 5 → Some k ≡ one_of n → cond (ltb k 5) (Some k) None ≡ one_of n
+pub as_place : (n k : ℕ) → n ≤ 5 → Some k ≡ of_five n → cond (ltb k 5) (Some k) None ≡ of_five n
 as_place n k h p = grind (arith, nat_tests)
 
-pub first-place : (f : ℕ → Bool) (k : ℕ) → Some k ≡ one_of (first f) → cond (ltb k 5) (Some k) None ≡ one_of (first f)
+pub first-place : (f : ℕ → Bool) (k : ℕ) → Some k ≡ of_five (first f) → cond (ltb k 5) (Some k) None ≡ of_five (first f)
 unfolding first
 first-place f k = as_place _ k (first-le (f 0) (f 1) (f 2) (f 3) (f 4))
 
@@ -109,25 +109,25 @@ none-of : (b : Bool) (n : ℕ) → None ≡ cond b None (Some n) → b ≡ true
 none-of true n p = refl
 none-of false n p = absurd (cc)
 
-ended : (b : Bool) (n : ℕ) → eqb n 5 ≡ false → cond b None (Some n) ≡ one_of (cond b 5 n)
+ended : (b : Bool) (n : ℕ) → eqb n 5 ≡ false → cond b None (Some n) ≡ of_five (cond b 5 n)
 ended true n h = refl
 ended false n h = simp h
 
 module _ (d : Device) (on : (mie d && d.iei) ≡ true) where
-  pub requester-none : None ≡ one_of (first (stops d)) → None ≡ one_of (requester d)
+  pub requester-none : None ≡ of_five (first (stops d)) → None ≡ of_five (requester d)
   requester-none p =
       let h = none-of (eqb (first (stops d)) 5) _ p in
-      let r = is-requester d on in ap one_of (sym (simp (h) at r))
+      let r = is-requester d on in ap of_five (sym (simp (h) at r))
 
-  pub requester-at : (k : ℕ) → Some k ≡ one_of (first (stops d)) → k < 5 → cond (source_at d k).ius None (Some k) ≡ one_of (requester d)
+  pub requester-at : (k : ℕ) → Some k ≡ of_five (first (stops d)) → k < 5 → cond (source_at d k).ius None (Some k) ≡ of_five (requester d)
   requester-at k p h =
       let n = first (stops d) in
       let q = some-of (eqb n 5) n k p in
       let s = picked-is (is_served d) n (omega (arith, h, q.1)) in
       let r = is-requester d on ∙ simp (q.0, ← s) in
-      subst (λ (k : ℕ). cond (source_at d k).ius None (Some k) ≡ one_of (requester d)) (sym q.1) (ended (is_served d n) n q.0 ∙ ap one_of (sym r))
+      subst (λ (k : ℕ). cond (source_at d k).ius None (Some k) ≡ of_five (requester d)) (sym q.1) (ended (is_served d n) n q.0 ∙ ap of_five (sym r))
 
-pub requester-off : (d : Device) → (mie d && d.iei) ≡ false → None ≡ one_of (requester d)
+pub requester-off : (d : Device) → (mie d && d.iei) ≡ false → None ≡ of_five (requester d)
 unfolding requester first requests first_of
 requester-off d off = simp (off)
 
@@ -146,7 +146,7 @@ third a b c =
     let n = cond (not a) (1 + cond (not b) (1 + cond (not c) 1 0) 0) 0 in
     cond (ltb n 3) (Some n) None
 
-pub even-none : (a b c : Bool) → None ≡ third a b c → None ≡ one_of (first_of a false b false c)
+pub even-none : (a b c : Bool) → None ≡ third a b c → None ≡ of_five (first_of a false b false c)
 unfolding first_of
 even-none true b c p = absurd (cc)
 even-none false true c p = absurd (cc)
@@ -156,7 +156,7 @@ even-none false false false p = refl
 twice : (i n : ℕ) → i ≡ n → n < 3 → cond (ltb (2 * i) 5) (Some (2 * i)) None ≡ Some (2 * n)
 twice i n e h = grind (arith, nat_tests)
 
-pub even-at : (a b c : Bool) (i : ℕ) → Some i ≡ third a b c → cond (ltb (2 * i) 5) (Some (2 * i)) None ≡ one_of (first_of a false b false c)
+pub even-at : (a b c : Bool) (i : ℕ) → Some i ≡ third a b c → cond (ltb (2 * i) 5) (Some (2 * i)) None ≡ of_five (first_of a false b false c)
 unfolding first_of
 even-at true b c i p = twice i 0 (cc) (omega arith)
 even-at false true c i p = twice i 1 (cc) (omega arith)
@@ -164,12 +164,12 @@ even-at false false true i p = twice i 2 (cc) (omega arith)
 even-at false false false i p = absurd (cc)
 
 -- ---- whether one requests
-named : (a b c d e : Bool) → is_some (one_of (first_of a b c d e)) ≡ ltb (first_of a b c d e) 5
+named : (a b c d e : Bool) → is_some (of_five (first_of a b c d e)) ≡ ltb (first_of a b c d e) 5
 unfolding first_of
 named a b c d e =
     same _ _
-    (all5 (λ a b c d e. let n = cond a 0 (cond b 1 (cond c 2 (cond d 3 (cond e 4 5)))) in beq (is_some (one_of n)) (ltb n 5)) tt a b c d e)
+    (all5 (λ a b c d e. let n = cond a 0 (cond b 1 (cond c 2 (cond d 3 (cond e 4 5)))) in beq (is_some (of_five n)) (ltb n 5)) tt a b c d e)
 
-pub some-requests : (d : Device) → is_some (one_of (requester d)) ≡ ltb (requester d) 5
+pub some-requests : (d : Device) → is_some (of_five (requester d)) ≡ ltb (requester d) 5
 unfolding requester first
 some-requests d = named (requests d 0) (requests d 1) (requests d 2) (requests d 3) (requests d 4)

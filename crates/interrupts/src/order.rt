@@ -2,7 +2,7 @@
 ghost use Rattle.std.specs.Prelude.{◌≡◌};
 ghost use Rattle.rules.specs.Registers.{mie};
 ghost use Rattle.rules.specs.Interrupts.{first, served, pending, pending_counter, requester};
-ghost use Rattle.interrupts.specs.Order.{one_of};
+ghost use Rattle.interrupts.specs.Order.{of_five};
 
 use crate::mie;
 use basics::Place;
@@ -10,7 +10,7 @@ use rules::{Device, Source};
 
 // The highest requester: where the master bits let sources request, the first that waits, unless it or one above it is served.
 pub fn requester_of(d: Device) -> Option<Place<5>>
-    ensures { result ≡ one_of (requester d) }
+    ensures { result ≡ of_five (requester d) }
 {
     if !(mie(d) & d.iei) {
         return None;
@@ -31,14 +31,14 @@ pub(crate) fn is_served(d: Device) -> bool
 
 // The highest with IP and IE.
 pub(crate) fn pending_first(d: Device) -> Option<Place<5>>
-    ensures { result ≡ one_of (first (pending d)) }
+    ensures { result ≡ of_five (first (pending d)) }
 {
     Place::of(d.sources.iter().position(|s| s.ie & s.ip)?)
 }
 
 // The highest counter with IP and IE. Counters have the even places.
 pub(crate) fn pending_counter(d: Device) -> Option<Place<5>>
-    ensures { result ≡ one_of (pending_counter d) }
+    ensures { result ≡ of_five (pending_counter d) }
 {
     let counters = [
         d.sources[Source::CT3],

@@ -6,6 +6,7 @@ ghost use Rattle.rules.specs.Handshakes.{handshakes, offers_at, shown_at, is_lin
 ghost use Rattle.rules.specs.PortData.{effective_at, lined};
 
 use crate::{ackin_at, handshakes_at, inputs_at, outputs_at, port_at, port_enabled};
+use basics::Place;
 use rules::{Device, Port};
 
 // Whether a port has a handshake.
@@ -32,10 +33,10 @@ fn lines(d: Device) -> u8
 
 // Whether port p offers to take a byte, or to give one.
 #[tactic(auto, unfolding(rules::specs::Handshakes::offers_at))]
-pub(crate) fn offers(d: Device, p: usize) -> bool
-    requires { p < 2 }
+pub(crate) fn offers(d: Device, p: Place<2>) -> bool
     ensures { result ≡ offers_at d p }
 {
+    let p = p.index();
     let enabled = port_enabled(d, p);
     let q = d.patterns[p];
     let t = d.transfers[p];
@@ -47,14 +48,10 @@ pub(crate) fn offers(d: Device, p: usize) -> bool
 
 // What the line of port p shows, before polarity.
 #[tactic(auto, unfolding(rules::specs::Handshakes::shown_at))]
-fn shown_at(d: Device, p: usize) -> bool
-    requires { p < 2 }
+fn shown_at(d: Device, p: Place<2>) -> bool
     ensures { result ≡ shown_at d p }
 {
-    if ports::inputs(d.patterns[p]) {
-        return offers(d, p);
-    }
-    !offers(d, p)
+    ports::inputs(d.patterns[p.index()]) == offers(d, p)
 }
 
 // The byte x of Port C with what ports A and B show in its place: of the lines the odd bits.
@@ -63,7 +60,7 @@ fn with_shown(d: Device, x: u8) -> u8
     ensures { result ≡ lined d x }
 {
     let m = lines(d) & 0xAA;
-    let shown = at_lines(shown_at(d, 0), shown_at(d, 1));
+    let shown = at_lines(shown_at(d, Place { at: 0 }), shown_at(d, Place { at: 1 }));
     (x & (m ^ 255)) | (shown & m)
 }
 

@@ -4,14 +4,15 @@
 mod handshake;
 mod port;
 
-ghost use Rattle.std.specs.Prelude.{◌≡◌, false, ◌||◌};
+ghost use Rattle.std.specs.Prelude.{◌≡◌};
 ghost use Rattle.rules.specs.Record.{port_at, pattern_at, transfer_at};
 ghost use Rattle.rules.specs.Registers.{port_on, port_enabled, counter_on};
 ghost use Rattle.rules.specs.Handshakes.{inputs, outputs, handshakes, ackin_at, offers_at};
-ghost use Rattle.rules.specs.PortData.{direction_at, effective_at, value_at, pins_at, path_at, seen_at, data_at};
+ghost use Rattle.rules.specs.PortData.{direction_at, effective_at, value_at, pins_at, path_of, path_at, seen_at, data_at};
 ghost use Rattle.levels.specs.Outputs.{with_outputs};
 ghost use Rattle.levels.specs.Looks.{looks_of};
 
+use basics::Place;
 use rules::{Device, Port};
 
 // Whether a configuration enables port p.
@@ -52,40 +53,20 @@ pub fn counter_on(config: u8, i: usize) -> bool
 fn port_at(d: Device, p: usize) -> Port
     ensures { result ≡ port_at d p }
 {
-    match p {
-        0 => d.ports[0],
-        1 => d.ports[1],
-        2 => d.ports[2],
-        _ => Port {
-            polarity: 0,
-            direction: 0,
-            special: 0,
-            output: 0,
-            outside: 0,
-            catcher: 0,
-        },
-    }
+    d.ports.get(p).copied().unwrap_or_default()
 }
 
 // Whether port p is an input port with handshake, an output port, or one of the two; past A and B none is.
 pub fn inputs_at(d: Device, p: usize) -> bool
     ensures { result ≡ inputs (pattern_at d p) }
 {
-    match p {
-        0 => ports::inputs(d.patterns[0]),
-        1 => ports::inputs(d.patterns[1]),
-        _ => false,
-    }
+    d.patterns.get(p).is_some_and(|q| ports::inputs(*q))
 }
 
 pub fn outputs_at(d: Device, p: usize) -> bool
     ensures { result ≡ outputs (pattern_at d p) }
 {
-    match p {
-        0 => ports::outputs(d.patterns[0]),
-        1 => ports::outputs(d.patterns[1]),
-        _ => false,
-    }
+    d.patterns.get(p).is_some_and(|q| ports::outputs(*q))
 }
 
 fn handshakes_at(d: Device, p: usize) -> bool
@@ -110,10 +91,9 @@ pub fn ackin_at(d: Device, p: usize) -> bool
 pub fn offers_at(d: Device, p: usize) -> bool
     ensures { result ≡ offers_at d p }
 {
-    match p {
-        0 => handshake::offers(d, 0),
-        1 => handshake::offers(d, 1),
-        _ => false,
+    match Place::of(p) {
+        Some(p) => handshake::offers(d, p),
+        None => false,
     }
 }
 
@@ -121,11 +101,7 @@ pub fn offers_at(d: Device, p: usize) -> bool
 fn front_at(d: Device, p: usize) -> u8
     ensures { result ≡ (transfer_at d p).front }
 {
-    match p {
-        0 => d.transfers[0].front,
-        1 => d.transfers[1].front,
-        _ => 0,
-    }
+    d.transfers.get(p).copied().unwrap_or_default().front
 }
 
 // Port p with what is in effect: its own settings, but for a handshake.
@@ -133,8 +109,7 @@ pub fn effective_at(d: Device, p: usize) -> Port
     ensures { result ≡ effective_at d p }
 {
     if handshake::any(d) {
-        let e = d;
-        return handshake::effective(e, p);
+        return handshake::effective(d, p);
     }
     port_at(d, p)
 }
@@ -154,12 +129,10 @@ fn with_outputs(d: Device, p: usize, x: u8) -> u8
         return x;
     }
     if p == 1 {
-        let c1 = d.counters[0];
-        let c2 = d.counters[1];
-        return port::stand(d.version, c1, true, port::stand(d.version, c2, false, x));
+        let low = port::stand(d.version, d.counters[1], false, x);
+        return port::stand(d.version, d.counters[0], true, low);
     }
-    let c3 = d.counters[2];
-    port::stand(d.version, c3, false, x)
+    port::stand(d.version, d.counters[2], false, x)
 }
 
 // The value that port p puts out.
@@ -167,8 +140,7 @@ fn with_outputs(d: Device, p: usize, x: u8) -> u8
 fn value_at(d: Device, p: usize) -> u8
     ensures { result ≡ value_at d p }
 {
-    let q = port_at(d, p);
-    let x = q.output;
+    let x = port_at(d, p).output;
     if outputs_at(d, p) {
         return x;
     }
@@ -186,14 +158,29 @@ struct Face {
     value: u8,
 }
 
-// Port p, where a port has a handshake.
-fn handshake_face(d: Device, p: usize) -> Face
+impl Face {
+    // The path value, whose input's pin shows the outside level.
+    fn path(self) -> u8
+        ensures { result ≡ path_of self.port self.port.outside self.value }
+    {
+        port::path(self.port, self.port.outside, self.value)
+    }
+}
+
+// Port p as it stands: with its own settings where no port has a handshake.
+fn face_of(d: Device, p: usize) -> Face
     ensures { (result.port ≡ effective_at d p) × (result.value ≡ value_at d p) }
 {
-    let q = handshake::effective(d, p);
+    if handshake::any(d) {
+        return Face {
+            port: handshake::effective(d, p),
+            value: value_at(d, p),
+        };
+    }
+    let port = port_at(d, p);
     Face {
-        port: q,
-        value: value_at(d, p),
+        port,
+        value: with_outputs(d, p, port.output),
     }
 }
 
@@ -201,45 +188,23 @@ fn handshake_face(d: Device, p: usize) -> Face
 pub fn pins_at(d: Device, p: usize) -> u8
     ensures { result ≡ pins_at d p }
 {
-    let enabled = port_enabled(d, p);
-    if handshake::any(d) {
-        let e = d;
-        let f = handshake_face(e, p);
-        return port::pins(enabled, f.port, f.value);
-    }
-    let q = port_at(d, p);
-    port::pins(enabled, q, with_outputs(d, p, q.output))
-}
-
-// Where no port has a handshake: the path value of port p, whose input's pin shows the outside level.
-#[tactic(auto, unfolding(rules::specs::PortData::path_at, rules::specs::PortData::pins_at))]
-fn own_path(d: Device, p: usize) -> u8
-    requires { (handshakes (pattern_at d 0) || handshakes (pattern_at d 1)) ≡ false }
-    ensures { result ≡ path_at d p }
-{
-    let q = port_at(d, p);
-    port::path(q, q.outside, with_outputs(d, p, q.output))
+    let f = face_of(d, p);
+    port::pins(port_enabled(d, p), f.port, f.value)
 }
 
 #[tactic(auto, unfolding(rules::specs::PortData::path_at, rules::specs::PortData::pins_at))]
 pub fn path_at(d: Device, p: usize) -> u8
     ensures { result ≡ path_at d p }
 {
-    if handshake::any(d) {
-        let e = d;
-        let f = handshake_face(e, p);
-        let r = f.port;
-        return port::path(r, r.outside, f.value);
-    }
-    own_path(d, p)
+    face_of(d, p).path()
 }
 
 #[tactic(auto, unfolding(rules::specs::PortData::seen_at))]
 pub fn seen_at(d: Device, p: usize) -> u8
     ensures { result ≡ seen_at d p }
 {
-    let q = effective_at(d, p);
-    port::seen(port_enabled(d, p), q, path_at(d, p))
+    let f = face_of(d, p);
+    port::seen(port_enabled(d, p), f.port, f.path())
 }
 
 // What a step compares: the path values of ports B and C, which have the counters' lines, and what the patterns of A and B see.
@@ -251,49 +216,17 @@ pub struct Looks {
     pub seen_b: u8,
 }
 
-// Where no port has a handshake: what port p, with that path value, sees.
-#[tactic(auto, unfolding(rules::specs::PortData::seen_at))]
-fn own_seen(d: Device, p: usize, path: u8) -> u8
-    requires { ((handshakes (pattern_at d 0) || handshakes (pattern_at d 1)) ≡ false) × (path ≡ path_at d p) }
-    ensures { result ≡ seen_at d p }
-{
-    let q = port_at(d, p);
-    port::seen(port_enabled(d, p), q, path)
-}
-
-fn own_looks(d: Device) -> Looks
-    requires { (handshakes (pattern_at d 0) || handshakes (pattern_at d 1)) ≡ false }
-    ensures { result ≡ looks_of d }
-{
-    let a = own_path(d, 0);
-    let b = own_path(d, 1);
-    Looks {
-        b: b,
-        c: own_path(d, 2),
-        seen_a: own_seen(d, 0, a),
-        seen_b: own_seen(d, 1, b),
-    }
-}
-
-fn all_looks(d: Device) -> Looks
-    ensures { result ≡ looks_of d }
-{
-    Looks {
-        b: path_at(d, 1),
-        c: path_at(d, 2),
-        seen_a: seen_at(d, 0),
-        seen_b: seen_at(d, 1),
-    }
-}
-
 pub fn look(d: Device) -> Looks
     ensures { result ≡ looks_of d }
 {
-    if handshake::any(d) {
-        let e = d;
-        return all_looks(e);
+    let f = face_of(d, 1);
+    let b = f.path();
+    Looks {
+        b,
+        c: path_at(d, 2),
+        seen_a: seen_at(d, 0),
+        seen_b: port::seen(port_enabled(d, 1), f.port, b),
     }
-    own_looks(d)
 }
 
 #[tactic(auto, unfolding(rules::specs::PortData::data_at))]
@@ -301,10 +234,9 @@ pub fn data_at(d: Device, p: usize) -> u8
     ensures { result ≡ data_at d p }
 {
     if p == 2 {
-        let q = effective_at(d, p);
         return port::seen(
             port_enabled(d, p),
-            q,
+            effective_at(d, p),
             port::level(port_at(d, p), pins_at(d, p)),
         );
     }

@@ -33,7 +33,7 @@ use Rattle.host.specs.Calls.{Called, called, fresh_code, fresh_state, host_end_c
 use Rattle.image.specs.Image.{agree, restored_from, restored_of, save_code, saved_of}
 use Rattle.image.specs.Pointed.{image_z8536, restored_z8536, save_code_z8536, saved_z8536}
 use Rattle.input.specs.Input.{unread}
-use Rattle.interrupts.specs.Order.{one_of}
+use Rattle.interrupts.specs.Order.{of_five}
 use Rattle.levels.specs.Looks.{looks_of}
 use Rattle.lines.specs.Lines.{below, clocks_in, digit_of, event_in, line_of, says_of}
 use Rattle.lines.specs.Pieces.{cut_from, feed_at}
@@ -713,7 +713,7 @@ module _ {M : Type 1} (𝓤 : Ura M) where
   input-start = one-result 𝓤 input·start.ended input·start.clauses (λ κs a. unread) refl
 
   pub interrupts-requester-of : OneResult 𝓤 interrupts·requester-of.ended interrupts·requester-of.clauses
-  interrupts-requester-of = one-result 𝓤 interrupts·requester-of.ended interrupts·requester-of.clauses (λ κs a. one_of (requester a.0)) refl
+  interrupts-requester-of = one-result 𝓤 interrupts·requester-of.ended interrupts·requester-of.clauses (λ κs a. of_five (requester a.0)) refl
 
   pub interrupts-lines : OneResult 𝓤 interrupts·lines.ended interrupts·lines.clauses
   interrupts-lines = one-result 𝓤 interrupts·lines.ended interrupts·lines.clauses (λ κs a. lines_of a.0) refl

@@ -34,35 +34,37 @@ module _ {A : Type 0} (same : A → A → Bool) (x : A) (l m : List A) where
 
 -- ---- a part, field by field
 unfoldable pub source_eq : Source → Source → Bool
-source_eq s t = beq s.ius t.ius && (beq s.ie t.ie && (beq s.ip t.ip && (beq s.err t.err && (beq s.hidden t.hidden))))
+source_eq s t = beq s.ius t.ius && (beq s.ie t.ie && (beq s.ip t.ip && (beq s.err t.err && beq s.hidden t.hidden)))
 
 source-eq : (s t : Source) → source_eq s t ≡ same_source s t
 unfolding source_eq same_source
 source-eq s t = simp and_assoc
 
 unfoldable pub counter_eq : Counter → Counter → Bool
-counter_eq s t = eqb s.mode t.mode && (eqb s.constant t.constant && (eqb s.count t.count && (eqb s.frozen t.frozen && (beq s.rcc t.rcc && (beq s.gcb t.gcb && (beq s.cip t.cip && (beq s.half t.half && (beq s.pulse t.pulse))))))))
+counter_eq s t =
+    eqb s.mode t.mode && (eqb s.constant t.constant && (eqb s.count t.count && (eqb s.frozen t.frozen && (beq s.rcc t.rcc && (beq s.gcb t.gcb
+    && (beq s.cip t.cip && (beq s.half t.half && beq s.pulse t.pulse)))))))
 
 counter-eq : (s t : Counter) → counter_eq s t ≡ same_counter s t
 unfolding counter_eq same_counter
 counter-eq s t = simp and_assoc
 
 unfoldable pub port_eq : Port → Port → Bool
-port_eq s t = eqb s.polarity t.polarity && (eqb s.direction t.direction && (eqb s.special t.special && (eqb s.output t.output && (eqb s.outside t.outside && (eqb s.catcher t.catcher)))))
+port_eq s t = eqb s.polarity t.polarity && (eqb s.direction t.direction && (eqb s.special t.special && (eqb s.output t.output && (eqb s.outside t.outside && eqb s.catcher t.catcher))))
 
 port-eq : (s t : Port) → port_eq s t ≡ same_port s t
 unfolding port_eq same_port
 port-eq s t = simp and_assoc
 
 unfoldable pub pattern_eq : Pattern → Pattern → Bool
-pattern_eq s t = eqb s.mode t.mode && (eqb s.handshake t.handshake && (eqb s.polarity t.polarity && (eqb s.transition t.transition && (eqb s.mask t.mask && (beq s.ioe t.ioe && (beq s.pmf t.pmf))))))
+pattern_eq s t = eqb s.mode t.mode && (eqb s.handshake t.handshake && (eqb s.polarity t.polarity && (eqb s.transition t.transition && (eqb s.mask t.mask && (beq s.ioe t.ioe && beq s.pmf t.pmf)))))
 
 pattern-eq : (s t : Pattern) → pattern_eq s t ≡ same_pattern s t
 unfolding pattern_eq same_pattern
 pattern-eq s t = simp and_assoc
 
 unfoldable pub transfer_eq : Transfer → Transfer → Bool
-transfer_eq s t = eqb s.front t.front && (eqb s.behind t.behind && (eqb s.bytes t.bytes && (beq s.unfinished t.unfinished && (beq s.pair t.pair))))
+transfer_eq s t = eqb s.front t.front && (eqb s.behind t.behind && (eqb s.bytes t.bytes && (beq s.unfinished t.unfinished && beq s.pair t.pair)))
 
 pub transfer-eq : (s t : Transfer) → transfer_eq s t ≡ same_transfer s t
 unfolding transfer_eq same_transfer

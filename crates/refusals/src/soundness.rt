@@ -104,8 +104,7 @@ fn sound_patterns(d: Device) -> bool
 fn held_only(enabled: bool, q: Pattern, t: Transfer) -> bool
     ensures { result ≡ held_only enabled q t }
 {
-    (ports::handshakes(q) & enabled)
-        | (t == Transfer::default())
+    (ports::handshakes(q) & enabled) | (t == Transfer::default())
 }
 
 #[tactic(auto, unfolding(rules::specs::Sound::sound_transfer, rules::specs::Sound::room_only, rules::specs::Sound::bytes_only, rules::specs::Sound::unfinished_only, rules::specs::Sound::pair_only, rules::specs::Sound::front_only))]
