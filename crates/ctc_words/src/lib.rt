@@ -14,7 +14,7 @@ use texts::{Text, glyph};
 pub const LINES: usize = 14;
 
 // A fact of the four channels.
-#[tactic(auto, unfolding(texts::specs::Kept::typed, crate::specs::Shown::channels_line, texts::specs::Spelled::spelled))]
+#[tactic(auto, using(texts::proofs::Typing::typed_append), unfolding(texts::specs::Kept::typed, crate::specs::Shown::channels_line, texts::specs::Spelled::spelled, words::proofs::Columns::columns))]
 fn channels_line(d: Ctc, row: usize) -> Text
     ensures { result ≡ typed no_text (channels_line d row) }
 {

@@ -17,7 +17,7 @@ fn side(whole: u32, n: usize) -> Text
     word(t, b": refused 7 (under ")
 }
 
-#[tactic(auto, unfolding(crate::specs::Refusals::not_whole, texts::specs::Spelled::spelled))]
+#[tactic(auto, using(texts::proofs::Typing::typed_append), unfolding(crate::specs::Refusals::not_whole, texts::specs::Spelled::spelled))]
 fn not_whole(whole: u32, n: usize) -> Text
     ensures { result ≡ typed no_text (not_whole whole n) }
 {
@@ -75,7 +75,7 @@ fn reason(t: Text, why: Trouble) -> Text
 }
 
 // Why a file cannot be read or written.
-#[tactic(auto, unfolding(texts::specs::Kept::typed, crate::specs::Refusals::trouble))]
+#[tactic(auto, using(texts::proofs::Typing::typed_append), unfolding(texts::specs::Kept::typed, crate::specs::Refusals::trouble))]
 pub fn trouble_line(writing: bool, why: Trouble) -> Text
     ensures { result ≡ typed no_text (trouble writing why) }
 {

@@ -1,4 +1,3 @@
-pub mod Typing
 pub mod Columns
 pub mod Rows
 pub mod Whole

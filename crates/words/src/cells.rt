@@ -28,6 +28,7 @@ pub fn label(rows: &[[u8; 16]], row: usize) -> Text
 }
 
 // A name and its bit.
+#[tactic(auto, using(texts::proofs::Typing::typed_append), unfolding(texts::specs::Kept::typed, crate::specs::Shown::named))]
 pub(crate) fn named(t: Text, w: &[u8], f: bool) -> Text
     ensures { result ≡ typed t (named_of w.now f) }
 {

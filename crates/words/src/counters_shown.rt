@@ -116,7 +116,7 @@ fn counter_column(t: Text, d: Device, i: Place<3>, row: usize) -> Text
     counter_cell(t, d.version, enabled, d.counters[i.index()], row)
 }
 
-#[tactic(auto, unfolding(texts::specs::Kept::typed, crate::specs::Shown::counter_line, texts::specs::Spelled::spelled))]
+#[tactic(auto, using(texts::proofs::Typing::typed_append), unfolding(texts::specs::Kept::typed, crate::specs::Shown::counter_line, texts::specs::Spelled::spelled, crate::proofs::Columns::columns))]
 pub(crate) fn counter_line(d: Device, row: usize) -> Text
     ensures { result ≡ typed no_text (counter_line d row) }
 {

@@ -37,7 +37,7 @@ pub(crate) fn version_line(version: u8) -> Text
 }
 
 // What a Z8536 has beside its core: the pointer, and 1 where it was set just now.
-#[tactic(auto, unfolding(texts::specs::Kept::typed, crate::specs::Shown::pointer_line, texts::specs::Spelled::spelled))]
+#[tactic(auto, using(texts::proofs::Typing::typed_append), unfolding(texts::specs::Kept::typed, crate::specs::Shown::pointer_line, texts::specs::Spelled::spelled))]
 pub fn pointer_line(pointer: u8, pointed: bool) -> Text
     ensures { result ≡ typed no_text (pointer_line pointer pointed) }
 {
@@ -45,7 +45,7 @@ pub fn pointer_line(pointer: u8, pointed: bool) -> Text
     named(t, b"  state ", pointed).push(b'\n')
 }
 
-#[tactic(auto, unfolding(crate::specs::Shown::master_line, texts::specs::Spelled::spelled))]
+#[tactic(auto, using(texts::proofs::Typing::typed_append), unfolding(texts::specs::Kept::typed, crate::specs::Shown::master_line, texts::specs::Spelled::spelled))]
 pub(crate) fn master_line(m: u8) -> Text
     ensures { result ≡ typed no_text (master_line m) }
 {
@@ -73,7 +73,7 @@ pub(crate) fn link_line(lc: u8) -> Text
     }
 }
 
-#[tactic(auto, unfolding(texts::specs::Kept::typed, crate::specs::Shown::levels_line, texts::specs::Spelled::spelled))]
+#[tactic(auto, using(texts::proofs::Typing::typed_append), unfolding(texts::specs::Kept::typed, crate::specs::Shown::levels_line, texts::specs::Spelled::spelled))]
 pub(crate) fn levels_line(d: Device) -> Text
     ensures { result ≡ typed no_text (levels_line d) }
 {
@@ -99,7 +99,7 @@ pub(crate) fn request_line(k: u8) -> Text
     }
 }
 
-#[tactic(auto, unfolding(texts::specs::Kept::typed, crate::specs::Shown::acknowledge_line, texts::specs::Spelled::spelled))]
+#[tactic(auto, using(texts::proofs::Typing::typed_append), unfolding(texts::specs::Kept::typed, crate::specs::Shown::acknowledge_line, texts::specs::Spelled::spelled))]
 pub(crate) fn acknowledge_line(d: Device) -> Text
     ensures { result ≡ typed no_text (acknowledge_line d) }
 {

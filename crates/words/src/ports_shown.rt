@@ -49,7 +49,7 @@ fn port_cell(t: Text, d: Device, p: Place<3>, row: usize) -> Text
     }
 }
 
-#[tactic(auto, unfolding(texts::specs::Kept::typed, crate::specs::Shown::port_line, texts::specs::Spelled::spelled))]
+#[tactic(auto, using(texts::proofs::Typing::typed_append), unfolding(texts::specs::Kept::typed, crate::specs::Shown::port_line, texts::specs::Spelled::spelled, crate::proofs::Columns::columns))]
 pub(crate) fn port_line(d: Device, row: usize) -> Text
     ensures { result ≡ typed no_text (port_line d row) }
 {
@@ -109,7 +109,7 @@ fn pattern_cell(t: Text, d: Device, p: Place<2>, row: usize) -> Text
     }
 }
 
-#[tactic(auto, unfolding(texts::specs::Kept::typed, crate::specs::Shown::pattern_line, texts::specs::Spelled::spelled))]
+#[tactic(auto, using(texts::proofs::Typing::typed_append), unfolding(texts::specs::Kept::typed, crate::specs::Shown::pattern_line, texts::specs::Spelled::spelled, crate::proofs::Columns::columns))]
 pub(crate) fn pattern_line(d: Device, row: usize) -> Text
     ensures { result ≡ typed no_text (pattern_line d row) }
 {
@@ -141,7 +141,7 @@ fn transfer_cell(t: Text, h: Transfer, row: usize) -> Text
     }
 }
 
-#[tactic(auto, unfolding(texts::specs::Kept::typed, crate::specs::Shown::transfer_line, texts::specs::Spelled::spelled))]
+#[tactic(auto, using(texts::proofs::Typing::typed_append), unfolding(texts::specs::Kept::typed, crate::specs::Shown::transfer_line, texts::specs::Spelled::spelled, crate::proofs::Columns::columns))]
 pub(crate) fn transfer_line(d: Device, row: usize) -> Text
     ensures { result ≡ typed no_text (transfer_line d row) }
 {

@@ -29,7 +29,7 @@ fn source_cell(t: Text, s: Source, row: usize) -> Text
     bit_cell(t, flags.get(row).copied().unwrap_or(false))
 }
 
-#[tactic(auto, unfolding(texts::specs::Kept::typed, crate::specs::Shown::source_line, texts::specs::Spelled::spelled))]
+#[tactic(auto, using(texts::proofs::Typing::typed_append), unfolding(texts::specs::Kept::typed, crate::specs::Shown::source_line, texts::specs::Spelled::spelled, crate::proofs::Columns::columns))]
 pub(crate) fn source_line(d: Device, row: usize) -> Text
     ensures { result ≡ typed no_text (source_line d row) }
 {
