@@ -13,3 +13,13 @@ pub struct Bodies {
     pub lines: [u8; 2],
     pub transfers: [u8; 8],
 }
+
+// The same bodies where they stand in an image; of version 1 the last is empty.
+#[derive(Clone, Copy)]
+pub struct Parts<'a> {
+    pub registers: &'a [u8],
+    pub counts: &'a [u8],
+    pub pins: &'a [u8],
+    pub lines: &'a [u8],
+    pub transfers: &'a [u8],
+}

@@ -2,19 +2,19 @@
 ghost use Rattle.std.specs.Prelude.{◌≡◌, ◌<◌};
 ghost use Rattle.ctc_image.specs.Layout.{channel_byte, channel_in, told_ctc, channel_clear, clear_ctc};
 
+use basics::Place;
 use ctc_rules::{Channel, Ctc};
 
 // Byte k of channel i.
-fn byte(b: &[u8], i: usize, k: usize) -> u8
-    requires { (i < 4) × (k < 7) }
+fn byte(b: &[u8], i: Place<4>, k: usize) -> u8
+    requires { k < 7 }
     ensures { result ≡ channel_byte b.now i k }
 {
-    basics::byte_at(b, k + 7 * i)
+    basics::byte_at(b, k + 7 * i.index())
 }
 
 #[tactic(auto, unfolding(crate::specs::Layout::channel_in))]
-fn channel(b: &[u8], i: usize) -> Channel
-    requires { i < 4 }
+fn channel(b: &[u8], i: Place<4>) -> Channel
     ensures { result ≡ channel_in b.now i }
 {
     let flags = byte(b, i, 4);
@@ -36,7 +36,12 @@ pub(crate) fn record(b: &[u8], l: &[u8]) -> Ctc
     ensures { result ≡ told_ctc b.now l.now }
 {
     Ctc {
-        channels: [channel(b, 0), channel(b, 1), channel(b, 2), channel(b, 3)],
+        channels: [
+            channel(b, Place { at: 0 }),
+            channel(b, Place { at: 1 }),
+            channel(b, Place { at: 2 }),
+            channel(b, Place { at: 3 }),
+        ],
         vector: basics::byte_at(l, 0),
         levels: basics::byte_at(l, 1),
         iei: basics::byte_at(l, 2) == 1,
@@ -44,8 +49,7 @@ pub(crate) fn record(b: &[u8], l: &[u8]) -> Ctc
 }
 
 #[tactic(auto, unfolding(crate::specs::Layout::channel_clear))]
-fn channel_clear(b: &[u8], i: usize) -> bool
-    requires { i < 4 }
+fn channel_clear(b: &[u8], i: Place<4>) -> bool
     ensures { result ≡ channel_clear b.now i }
 {
     (byte(b, i, 4) < 8) & (byte(b, i, 5) < 2) & (byte(b, i, 6) < 2)
@@ -55,9 +59,9 @@ fn channel_clear(b: &[u8], i: usize) -> bool
 pub(crate) fn clear(b: &[u8], l: &[u8]) -> bool
     ensures { result ≡ clear_ctc b.now l.now }
 {
-    channel_clear(b, 0)
-        & channel_clear(b, 1)
-        & channel_clear(b, 2)
-        & channel_clear(b, 3)
+    channel_clear(b, Place { at: 0 })
+        & channel_clear(b, Place { at: 1 })
+        & channel_clear(b, Place { at: 2 })
+        & channel_clear(b, Place { at: 3 })
         & (basics::byte_at(l, 2) < 2)
 }

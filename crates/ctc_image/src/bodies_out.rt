@@ -39,8 +39,7 @@ pub(crate) fn write(d: Ctc, buf: &mut [u8])
     requires { 41 ≤ length buf.old }
     ensures { buf.new ≡ image_ctc d ++ drop 41 buf.old }
 {
-    let table = crate::TABLE;
-    basics::lay(buf, 0, &table);
+    basics::lay(buf, 0, &crate::TABLE);
     basics::lay(buf, 10, &channel(d.channels[0]));
     basics::lay(buf, 17, &channel(d.channels[1]));
     basics::lay(buf, 24, &channel(d.channels[2]));

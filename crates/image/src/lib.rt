@@ -10,6 +10,7 @@ ghost use Rattle.rules.specs.Record.{fresh_of};
 ghost use Rattle.bodies.specs.Taken.{record_in, unused_clear, states_agree};
 ghost use Rattle.image.specs.Image.{agree, fifth_len, bodies_len, laid_by, save_code, saved_of, restored_from, accepted_of, restored_by, restored_of};
 
+use bodies::Parts;
 pub use pointed::{restore_z8536, save_z8536};
 use rules::{Device, Refusal};
 
@@ -64,18 +65,14 @@ pub(crate) fn write_by(contents: &[u8], d: Device, buf: &mut [u8])
         ++ drop (length contents.now + bodies_len d.version) buf.old }
 {
     let n = contents.len();
-    let counts = n + 48;
-    let pins = n + 57;
-    let lines = n + 64;
-    let transfers = n + 66;
     let b = image_out::bodies(d);
     basics::lay(buf, 0, contents);
     basics::lay(buf, n, &b.registers);
-    basics::lay(buf, counts, &b.counts);
-    basics::lay(buf, pins, &b.pins);
-    basics::lay(buf, lines, &b.lines);
+    basics::lay(buf, n + 48, &b.counts);
+    basics::lay(buf, n + 57, &b.pins);
+    basics::lay(buf, n + 64, &b.lines);
     if d.version != 1 {
-        basics::lay(buf, transfers, &b.transfers);
+        basics::lay(buf, n + 66, &b.transfers);
     }
 }
 
@@ -101,23 +98,16 @@ pub fn save(d: Device, buf: &mut [u8]) -> Result<(), Refusal>
 
 // The record of five bodies, if their unused bits are 0 and it is sound.
 #[tactic(auto, unfolding(crate::specs::Image::restored_from, crate::specs::Image::accepted_of, rules::specs::Refusals::number_of))]
-fn accept(
-    version: u8,
-    registers: &[u8],
-    counts: &[u8],
-    pins: &[u8],
-    lines: &[u8],
-    transfers: &[u8],
-) -> Result<Device, Refusal>
+fn accept(version: u8, parts: &Parts) -> Result<Device, Refusal>
     ensures { restored_from result fresh_of ≡ accepted_of
-        (unused_clear registers.now counts.now pins.now lines.now transfers.now
-        && states_agree registers.now transfers.now)
-        (record_in version registers.now counts.now pins.now lines.now transfers.now) }
+        (unused_clear parts.now.registers.now parts.now.counts.now parts.now.pins.now parts.now.lines.now parts.now.transfers.now
+        && states_agree parts.now.registers.now parts.now.transfers.now)
+        (record_in version parts.now.registers.now parts.now.counts.now parts.now.pins.now parts.now.lines.now parts.now.transfers.now) }
 {
-    if !image_in::clear(registers, counts, pins, lines, transfers) {
+    if !image_in::clear(parts) {
         return Err(Refusal::Unsound);
     }
-    let e = image_in::device(version, registers, counts, pins, lines, transfers);
+    let e = image_in::device(version, parts);
     if !refusals::sound(e) {
         return Err(Refusal::Unsound);
     }
@@ -146,11 +136,13 @@ pub(crate) fn read_by(version: u8, contents: &[u8], more: u8, s: &[u8]) -> Resul
     }
     accept(
         version,
-        &s[n..counts],
-        &s[counts..pins],
-        &s[pins..lines],
-        &s[lines..transfers],
-        &s[transfers..end],
+        &Parts {
+            registers: &s[n..counts],
+            counts: &s[counts..pins],
+            pins: &s[pins..lines],
+            lines: &s[lines..transfers],
+            transfers: &s[transfers..end],
+        },
     )
 }
 

@@ -9,6 +9,7 @@ mod unused;
 ghost use Rattle.std.specs.Prelude.{◌≡◌, ◌&&◌};
 ghost use Rattle.bodies.specs.Taken.{record_in, unused_clear, states_agree};
 
+use bodies::Parts;
 use registers::read_registers;
 use rest::{read_counts, read_lines, read_pins, read_transfers};
 use rules::Device;
@@ -17,32 +18,25 @@ use unused::{
 };
 
 #[tactic(auto, unfolding(bodies::specs::Taken::record_in))]
-pub fn device(
-    version: u8,
-    registers: &[u8],
-    counts: &[u8],
-    pins: &[u8],
-    lines: &[u8],
-    transfers: &[u8],
-) -> Device
-    ensures { result ≡ record_in version registers.now counts.now pins.now lines.now transfers.now }
+pub fn device(version: u8, parts: &Parts) -> Device
+    ensures { result ≡ record_in version parts.now.registers.now parts.now.counts.now parts.now.pins.now parts.now.lines.now parts.now.transfers.now }
 {
-    let told = read_registers(version, registers);
-    let counted = read_counts(told, counts);
-    let pinned = read_pins(counted, pins);
-    let lined = read_lines(pinned, lines);
-    interrupts::relined(read_transfers(lined, transfers))
+    let told = read_registers(version, parts.registers);
+    let counted = read_counts(told, parts.counts);
+    let pinned = read_pins(counted, parts.pins);
+    let lined = read_lines(pinned, parts.lines);
+    interrupts::relined(read_transfers(lined, parts.transfers))
 }
 
 #[tactic(auto, unfolding(bodies::specs::Taken::unused_clear))]
-pub fn clear(registers: &[u8], counts: &[u8], pins: &[u8], lines: &[u8], transfers: &[u8]) -> bool
-    ensures { result ≡ (unused_clear registers.now counts.now pins.now lines.now transfers.now
-        && states_agree registers.now transfers.now) }
+pub fn clear(parts: &Parts) -> bool
+    ensures { result ≡ (unused_clear parts.now.registers.now parts.now.counts.now parts.now.pins.now parts.now.lines.now parts.now.transfers.now
+        && states_agree parts.now.registers.now parts.now.transfers.now) }
 {
-    registers_clear(registers)
-        & counts_clear(counts)
-        & pins_clear(pins)
-        & lines_clear(lines)
-        & transfers_clear(transfers)
-        & states_agree(registers, transfers)
+    registers_clear(parts.registers)
+        & counts_clear(parts.counts)
+        & pins_clear(parts.pins)
+        & lines_clear(parts.lines)
+        & transfers_clear(parts.transfers)
+        & states_agree(parts.registers, parts.transfers)
 }

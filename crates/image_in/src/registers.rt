@@ -1,8 +1,9 @@
 // Body 1: the record that its registers tell.
-ghost use Rattle.std.specs.Prelude.{◌≡◌, ◌<◌};
+ghost use Rattle.std.specs.Prelude.{◌≡◌};
 ghost use Rattle.bodies.specs.Taken.{byte_at, source_in, sources_in, port_in, ports_in, pattern_in, counter_in, registers_in};
 
 use crate::bits::bit_at;
+use basics::Place;
 use rules::{Counter, Device, Lines, Pattern, Port, Source, Transfer};
 
 // IUS, IE, IP, ERR from the command register at a place.
@@ -57,10 +58,10 @@ fn ports_in(b: &[u8]) -> [Port; 3]
 
 // Port A's or B's.
 #[tactic(auto, unfolding(bodies::specs::Taken::pattern_in))]
-pub(crate) fn pattern_in(b: &[u8], p: usize) -> Pattern
-    requires { p < 2 }
+pub(crate) fn pattern_in(b: &[u8], p: Place<2>) -> Pattern
     ensures { result ≡ pattern_in b.now p }
 {
+    let p = p.index();
     Pattern {
         mode: basics::byte_at(b, 0x20 + 8 * p),
         handshake: basics::byte_at(b, 0x21 + 8 * p),
@@ -74,10 +75,10 @@ pub(crate) fn pattern_in(b: &[u8], p: usize) -> Pattern
 
 // Counter i's.
 #[tactic(auto, unfolding(bodies::specs::Taken::counter_in))]
-fn counter_in(b: &[u8], i: usize) -> Counter
-    requires { i < 3 }
+fn counter_in(b: &[u8], i: Place<3>) -> Counter
     ensures { result ≡ counter_in b.now i }
 {
+    let i = i.index();
     Counter {
         mode: basics::byte_at(b, 0x1C + i),
         constant: basics::word_at(b, 0x16 + 2 * i, 0x17 + 2 * i),
@@ -95,13 +96,6 @@ fn counter_in(b: &[u8], i: usize) -> Counter
 pub(crate) fn read_registers(version: u8, b: &[u8]) -> Device
     ensures { result ≡ registers_in version b.now }
 {
-    let none = Transfer {
-        front: 0,
-        behind: 0,
-        bytes: 0,
-        unfinished: false,
-        pair: false,
-    };
     Device {
         version: version,
         master: basics::byte_at(b, 0x00),
@@ -112,9 +106,16 @@ pub(crate) fn read_registers(version: u8, b: &[u8]) -> Device
             basics::byte_at(b, 0x04),
         ],
         ports: ports_in(b),
-        patterns: [pattern_in(b, 0), pattern_in(b, 1)],
-        transfers: [none, none],
-        counters: [counter_in(b, 0), counter_in(b, 1), counter_in(b, 2)],
+        patterns: [
+            pattern_in(b, Place { at: 0 }),
+            pattern_in(b, Place { at: 1 }),
+        ],
+        transfers: [Transfer::default(); 2],
+        counters: [
+            counter_in(b, Place { at: 0 }),
+            counter_in(b, Place { at: 1 }),
+            counter_in(b, Place { at: 2 }),
+        ],
         sources: sources_in(b),
         iei: false,
         phase: false,

@@ -1,24 +1,22 @@
 // Bodies 2 to 5: what each puts into a record.
-ghost use Rattle.std.specs.Prelude.{◌≡◌, ◌<◌};
+ghost use Rattle.std.specs.Prelude.{◌≡◌};
 ghost use Rattle.rules.specs.With.{with_hidden, with_outside, with_catcher};
 ghost use Rattle.bodies.specs.Taken.{counter_with, sources_with, counts_in, ports_with, hidden_with, pins_in, lines_in, transfer_in, transfers_in};
 
 use crate::bits::bit_at;
+use basics::Place;
 use rules::{Counter, Device, Port, Source, Transfer};
 
 // Counter i with its count, its half and its pulse.
 #[tactic(auto, unfolding(bodies::specs::Taken::counter_with))]
-fn counter_with(c: Counter, b: &[u8], i: usize) -> Counter
-    requires { i < 3 }
+fn counter_with(c: Counter, b: &[u8], i: Place<3>) -> Counter
     ensures { result ≡ counter_with c b.now i }
 {
-    let n = basics::word_at(b, 3 * i, 1 + 3 * i);
-    let h = bit_at(b, 2 + 3 * i, 0);
-    let p = bit_at(b, 2 + 3 * i, 2);
+    let i = i.index();
     Counter {
-        count: n,
-        half: h,
-        pulse: p,
+        count: basics::word_at(b, 3 * i, 1 + 3 * i),
+        half: bit_at(b, 2 + 3 * i, 0),
+        pulse: bit_at(b, 2 + 3 * i, 2),
         ..c
     }
 }
@@ -46,14 +44,13 @@ fn sources_with(s: [Source; 5], b: &[u8]) -> [Source; 5]
 pub(crate) fn read_counts(d: Device, b: &[u8]) -> Device
     ensures { result ≡ counts_in d b.now }
 {
-    let s = d.sources;
     Device {
         counters: [
-            counter_with(d.counters[0], b, 0),
-            counter_with(d.counters[1], b, 1),
-            counter_with(d.counters[2], b, 2),
+            counter_with(d.counters[0], b, Place { at: 0 }),
+            counter_with(d.counters[1], b, Place { at: 1 }),
+            counter_with(d.counters[2], b, Place { at: 2 }),
         ],
-        sources: sources_with(s, b),
+        sources: sources_with(d.sources, b),
         ..d
     }
 }
@@ -62,8 +59,8 @@ fn pin_in(q: Port, outside: u8, catcher: u8) -> Port
     ensures { result ≡ with_catcher (with_outside q outside) catcher }
 {
     Port {
-        outside: outside,
-        catcher: catcher,
+        outside,
+        catcher,
         ..q
     }
 }
@@ -95,11 +92,9 @@ fn hidden_with(s: [Source; 5], b: &[u8]) -> [Source; 5]
 pub(crate) fn read_pins(d: Device, b: &[u8]) -> Device
     ensures { result ≡ pins_in d b.now }
 {
-    let q = d.ports;
-    let s = d.sources;
     Device {
-        ports: ports_with(q, b),
-        sources: hidden_with(s, b),
+        ports: ports_with(d.ports, b),
+        sources: hidden_with(d.sources, b),
         ..d
     }
 }
@@ -117,10 +112,10 @@ pub(crate) fn read_lines(d: Device, b: &[u8]) -> Device
 
 // What port p holds.
 #[tactic(auto, unfolding(bodies::specs::Taken::transfer_in))]
-pub(crate) fn transfer_in(b: &[u8], p: usize) -> Transfer
-    requires { p < 2 }
+pub(crate) fn transfer_in(b: &[u8], p: Place<2>) -> Transfer
     ensures { result ≡ transfer_in b.now p }
 {
+    let p = p.index();
     Transfer {
         front: basics::byte_at(b, 4 * p),
         behind: basics::byte_at(b, 1 + 4 * p),
@@ -135,7 +130,10 @@ pub(crate) fn read_transfers(d: Device, b: &[u8]) -> Device
     ensures { result ≡ transfers_in d b.now }
 {
     Device {
-        transfers: [transfer_in(b, 0), transfer_in(b, 1)],
+        transfers: [
+            transfer_in(b, Place { at: 0 }),
+            transfer_in(b, Place { at: 1 }),
+        ],
         ..d
     }
 }

@@ -1,10 +1,11 @@
 // Whether the unused bits of a body are 0.
-ghost use Rattle.std.specs.Prelude.{◌≡◌, ◌<◌};
+ghost use Rattle.std.specs.Prelude.{◌≡◌};
 ghost use Rattle.bodies.specs.Taken.{byte_at, counter_clear, registers_clear, counts_clear, pins_clear, lines_clear, transfers_clear, state_agrees, states_agree};
 
 use crate::bits::bit_at;
 use crate::registers::pattern_in;
 use crate::rest::transfer_in;
+use basics::Place;
 
 // D1 of a counter's command register, the trigger.
 fn counter_clear(b: &[u8], i: usize) -> bool
@@ -48,20 +49,20 @@ pub(crate) fn transfers_clear(b: &[u8]) -> bool
 
 // Whether ORE and IRF of port p in body 1 are what body 5 makes of them.
 #[tactic(auto, unfolding(bodies::specs::Taken::state_agrees))]
-fn state_agrees(registers: &[u8], transfers: &[u8], p: usize) -> bool
-    requires { p < 2 }
+fn state_agrees(registers: &[u8], transfers: &[u8], p: Place<2>) -> bool
     ensures { result ≡ state_agrees registers.now transfers.now p }
 {
     let q = pattern_in(registers, p);
     let t = transfer_in(transfers, p);
-    let ore = ports::ore(q, t);
-    let irf = ports::irf(q, t);
-    (bit_at(registers, 0x08 + p, 3) == ore) & (bit_at(registers, 0x08 + p, 2) == irf)
+    let command = 0x08 + p.index();
+    (bit_at(registers, command, 3) == ports::ore(q, t))
+        & (bit_at(registers, command, 2) == ports::irf(q, t))
 }
 
 #[tactic(auto, unfolding(bodies::specs::Taken::states_agree))]
 pub(crate) fn states_agree(registers: &[u8], transfers: &[u8]) -> bool
     ensures { result ≡ states_agree registers.now transfers.now }
 {
-    state_agrees(registers, transfers, 0) & state_agrees(registers, transfers, 1)
+    state_agrees(registers, transfers, Place { at: 0 })
+        & state_agrees(registers, transfers, Place { at: 1 })
 }

@@ -697,14 +697,15 @@ module _ {M : Type 1} (𝓤 : Ura M) where
   pub image-in-device : OneResult 𝓤 image-in·device.ended image-in·device.clauses
   image-in-device =
       one-result 𝓤 image-in·device.ended image-in·device.clauses
-      (λ κs a. record_in a.0 a.1.0.now a.1.1.0.now a.1.1.1.0.now a.1.1.1.1.0.now a.1.1.1.1.1.0.now) refl
+      (λ κs a.
+      record_in a.0 a.1.0.now.registers.now a.1.0.now.counts.now a.1.0.now.pins.now a.1.0.now.lines.now a.1.0.now.transfers.now) refl
 
   pub image-in-clear : OneResult 𝓤 image-in·clear.ended image-in·clear.clauses
   image-in-clear =
       one-result 𝓤 image-in·clear.ended image-in·clear.clauses
       (λ κs a.
-      unused_clear a.0.now a.1.0.now a.1.1.0.now a.1.1.1.0.now a.1.1.1.1.0.now
-      && states_agree a.0.now a.1.1.1.1.0.now) refl
+      unused_clear a.0.now.registers.now a.0.now.counts.now a.0.now.pins.now a.0.now.lines.now a.0.now.transfers.now
+      && states_agree a.0.now.registers.now a.0.now.transfers.now) refl
 
   pub image-out-bodies : OneResult 𝓤 image-out·bodies.ended image-out·bodies.clauses
   image-out-bodies = one-result 𝓤 image-out·bodies.ended image-out·bodies.clauses (λ κs a. bodies_of a.0) refl
