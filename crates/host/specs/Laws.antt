@@ -28,10 +28,12 @@ use Rattle.ctc_image.specs.Image.{save_code_ctc, saved_ctc}
 use Rattle.ctc_image.proofs.Codes.{image-length as ctc-length, save-0 as ctc-0, saved-whole as ctc-whole}
 use Rattle.host.specs.Bytes.{count_bytes, reply_bytes, ctc_bytes, answer_len, ctc_len}
 
+-- the answer of a Z8036 and a Z8536
 pub answer_long : (a : Answer) → length (reply_bytes a) ≡ answer_len
 unfolding reply_bytes count_bytes
 answer_long a = refl
 
+-- and of a CTC
 pub ctc_long : (a : CtcAnswer) → length (ctc_bytes a) ≡ ctc_len
 unfolding ctc_bytes count_bytes
 ctc_long a = refl

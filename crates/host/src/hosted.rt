@@ -282,6 +282,7 @@ impl Hosted for Ctc {
 
 // The device of a state, unless the call is refused: with the code of the state's restore, then with 7 for an answer buffer that is
 // too short.
+// Stays: the refusal is a number, since `Restored.code` is one and C gets it.
 #[tactic(auto, unfolding(crate::specs::Calls::refusal_of, crate::specs::Calls::opened_by, rules::specs::Refusals::number_of))]
 pub(crate) fn opened<D: Hosted>(state: &[u8], room: usize, needed: usize) -> Result<D, u8>
     ensures { result ≡ opened_by (D.restored state.now) room needed }

@@ -21,6 +21,7 @@ use rules::{Device, Event};
 use z8536::Z8536;
 
 // A length by its number.
+// Stays: C asks by a number, as `length_at` says; past the last it is answered 0.
 #[tactic(auto, unfolding(crate::specs::Calls::length_at))]
 pub fn wolfscarer_length(what: u32) -> usize
     ensures { result ≡ length_at what }

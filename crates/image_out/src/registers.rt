@@ -19,17 +19,12 @@ fn port_command(s: Source, q: Pattern, t: Transfer) -> u8
 fn commands(d: Device) -> [u8; 5]
     ensures { result ≡ registers_from d 0x08 5 }
 {
-    let ct3 = d.sources[0];
-    let a = d.sources[1];
-    let ct2 = d.sources[2];
-    let b = d.sources[3];
-    let ct1 = d.sources[4];
     [
-        port_command(a, d.patterns[0], d.transfers[0]),
-        port_command(b, d.patterns[1], d.transfers[1]),
-        sources::counter_command(ct1, d.counters[0]),
-        sources::counter_command(ct2, d.counters[1]),
-        sources::counter_command(ct3, d.counters[2]),
+        port_command(d.sources[Source::A], d.patterns[0], d.transfers[0]),
+        port_command(d.sources[Source::B], d.patterns[1], d.transfers[1]),
+        sources::counter_command(d.sources[Source::CT1], d.counters[0]),
+        sources::counter_command(d.sources[Source::CT2], d.counters[1]),
+        sources::counter_command(d.sources[Source::CT3], d.counters[2]),
     ]
 }
 

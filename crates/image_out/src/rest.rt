@@ -2,7 +2,7 @@
 ghost use Rattle.std.specs.Prelude.{◌≡◌, ◌+◌, if◌then◌else◌};
 ghost use Rattle.bodies.specs.Written.{counts_body, pins_body, lines_body, transfers_body};
 
-use rules::Device;
+use rules::{Device, Source};
 
 // Two flags, in D0 and D1.
 fn flags(d0: bool, d1: bool) -> u8
@@ -26,9 +26,9 @@ pub(crate) fn counts(d: Device) -> [u8; 9]
     let a = d.counters[0];
     let b = d.counters[1];
     let c = d.counters[2];
-    let ct3 = d.sources[0];
-    let ct2 = d.sources[2];
-    let ct1 = d.sources[4];
+    let ct3 = d.sources[Source::CT3];
+    let ct2 = d.sources[Source::CT2];
+    let ct1 = d.sources[Source::CT1];
     [
         basics::byte_in(true, a.count),
         basics::byte_in(false, a.count),
@@ -50,8 +50,8 @@ pub(crate) fn pins(d: Device) -> [u8; 7]
     let a = d.ports[0];
     let b = d.ports[1];
     let c = d.ports[2];
-    let source_a = d.sources[1];
-    let source_b = d.sources[3];
+    let source_a = d.sources[Source::A];
+    let source_b = d.sources[Source::B];
     [
         a.outside,
         b.outside,
