@@ -32,11 +32,7 @@ pub fn label(rows: &[[u8; 16]], row: usize) -> Text
 pub(crate) fn named(t: Text, w: &[u8], f: bool) -> Text
     ensures { result ≡ typed t (named_of w.now f) }
 {
-    let u = word(t, w);
-    if f {
-        return u.push(b'1');
-    }
-    u.push(b'0')
+    word(t, w).push(if f { b'1' } else { b'0' })
 }
 
 // One of two words.
@@ -67,8 +63,7 @@ pub fn yes_cell(t: Text, f: bool) -> Text
 pub(crate) fn byte_cell(t: Text, n: u8) -> Text
     ensures { result ≡ typed t (byte_cell n) }
 {
-    let u = word(t, b"          ");
-    u.push(glyph(n / 16)).push(glyph(n))
+    word(t, b"          ").push(glyph(n / 16)).push(glyph(n))
 }
 
 // The digit at the place of a power of ten, or a space.
@@ -87,9 +82,10 @@ fn digit(p: u32, n: u32) -> u8
 pub fn number_cell(t: Text, n: u32) -> Text
     ensures { result ≡ typed t (number_cell n) }
 {
-    let t4 = word(t, b"       ").push(digit(10000, n));
-    let t3 = t4.push(digit(1000, n));
-    let t2 = t3.push(digit(100, n));
-    let t1 = t2.push(digit(10, n));
-    t1.push(b'0' + (n % 10) as u8)
+    word(t, b"       ")
+        .push(digit(10000, n))
+        .push(digit(1000, n))
+        .push(digit(100, n))
+        .push(digit(10, n))
+        .push(b'0' + (n % 10) as u8)
 }

@@ -1,5 +1,5 @@
 // The ports, a fact a line: its label, and a column for each port.
-ghost use Rattle.std.specs.Prelude.{◌≡◌, ◌<◌};
+ghost use Rattle.std.specs.Prelude.{◌≡◌};
 ghost use Rattle.rules.specs.Record.{pattern_at};
 ghost use Rattle.rules.specs.Registers.{port_enabled};
 ghost use Rattle.rules.specs.PortData.{seen_at};
