@@ -4,7 +4,6 @@ ghost use Rattle.texts.specs.Kept.{typed};
 ghost use Rattle.ctc_words.specs.Shown.{full_if, constant_cell, waits_cell, channel_cell};
 
 use ctc_rules::Channel;
-use phrases::word;
 use texts::Text;
 use words::{bit_cell, either, number_cell, yes_cell};
 
@@ -44,7 +43,7 @@ fn constant(t: Text, loaded: bool, n: u8) -> Text
     if loaded {
         return number_cell(t, full(loaded, n));
     }
-    word(t, b"           -")
+    t.word(b"           -")
 }
 
 // What a channel waits for.
@@ -53,10 +52,10 @@ fn waits(t: Text, c: Channel) -> Text
     ensures { result ≡ typed t (waits_cell c) }
 {
     if c.awaits {
-        return word(t, b"    constant");
+        return t.word(b"    constant");
     }
     if c.running {
-        return word(t, b"           -");
+        return t.word(b"           -");
     }
     either(t, c.loaded, b"        edge", b"     control")
 }

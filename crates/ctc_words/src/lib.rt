@@ -8,7 +8,6 @@ ghost use Rattle.texts.specs.Kept.{no_text, typed};
 ghost use Rattle.ctc_words.specs.Shown.{channels_line, device_line, shown_ctc};
 
 use ctc_rules::Ctc;
-use phrases::word;
 use texts::{Text, glyph};
 
 pub const LINES: usize = 14;
@@ -30,10 +29,10 @@ fn channels_line(d: Ctc, row: usize) -> Text
 fn device_line(d: Ctc) -> Text
     ensures { result ≡ typed no_text (device_line d) }
 {
-    let t = word(Text::new(), b"device          vector ");
+    let t = Text::new().word(b"device          vector ");
     let vector = t.push(glyph(d.vector / 16)).push(glyph(d.vector));
-    let levels = word(vector, b"  levels ").push(glyph(d.levels));
-    let iei = word(levels, b"  IEI ").push(glyph(basics::weight(d.iei, 1)));
+    let levels = vector.word(b"  levels ").push(glyph(d.levels));
+    let iei = levels.word(b"  IEI ").push(glyph(basics::weight(d.iei, 1)));
     iei.push(b'\n')
 }
 
@@ -43,8 +42,7 @@ pub fn line(d: Ctc, n: usize) -> Text
     ensures { result ≡ typed no_text (shown_ctc d n) }
 {
     match n {
-        0 => word(
-            Text::new(),
+        0 => Text::new().word(
             b"channel                    0           1           2           3\n",
         ),
         1..13 => channels_line(d, n - 1),

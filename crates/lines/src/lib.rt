@@ -1,7 +1,6 @@
 // The lines of a trace: cut from an input that comes in pieces, and read as events.
 #![tactic(auto)]
 
-mod long;
 mod pieces;
 mod reading;
 

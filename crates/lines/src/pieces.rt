@@ -1,38 +1,40 @@
 // Lines from an input that comes in pieces.
-ghost use Rattle.std.specs.Prelude.{◌≡◌, drop, ◌+◌};
+ghost use Rattle.std.specs.Prelude.{◌≡◌, drop, ◌+◌, ◌==◌, position};
+ghost use Rattle.texts.specs.Answers.{line_feed};
 ghost use Rattle.lines.specs.Pieces.{feed_at, cut_from};
 
 use crate::Cut;
-use crate::long::cut_long;
-use texts::{ROOM, Text};
+use texts::Text;
 
-// From a place in a piece to the end of a line, which may have begun in a piece before. While there is room its bytes are kept in place.
+fn first_feed(s: &[u8]) -> Option<usize>
+    ensures { result ≡ position (λ b. b == line_feed) s.now }
+{
+    s.iter().position(|b| *b == b'\n')
+}
+
+// What there is of a piece from a place on.
+fn rest(piece: &[u8], at: usize) -> &[u8]
+    ensures { result.now ≡ drop at piece.now }
+{
+    piece.get(at..).unwrap_or(&[])
+}
+
+// From a place in a piece to the end of a line, which may have begun in a piece before.
 pub fn cut_from(t: Text, piece: &[u8], at: usize) -> Cut
     ensures { result ≡ cut_from t at (drop at piece.now) }
 {
-    let mut u = t;
-    let mut i = at;
-    while i < piece.len() {
-        let b = piece[i];
-        if b == b'\n' {
-            return Cut {
-                text: u,
-                next: i + 1,
-                whole: true,
-            };
-        }
-        let n = u.len;
-        if ROOM <= n {
-            return cut_long(u, piece, i);
-        }
-        u.bytes[n] = b;
-        u.len = n + 1;
-        i += 1;
-    }
-    Cut {
-        text: u,
-        next: i,
-        whole: false,
+    let rest = rest(piece, at);
+    match first_feed(rest) {
+        Some(n) => Cut {
+            text: t.word(&rest[..n]),
+            next: at + n + 1,
+            whole: true,
+        },
+        None => Cut {
+            text: t.word(rest),
+            next: at + rest.len(),
+            whole: false,
+        },
     }
 }
 
@@ -40,12 +42,6 @@ pub fn cut_from(t: Text, piece: &[u8], at: usize) -> Cut
 pub fn line_end(piece: &[u8], at: usize) -> usize
     ensures { result ≡ at + feed_at (drop at piece.now) }
 {
-    let mut i = at;
-    while i < piece.len() {
-        if piece[i] == b'\n' {
-            return i;
-        }
-        i += 1;
-    }
-    i
+    let rest = rest(piece, at);
+    at + first_feed(rest).unwrap_or(rest.len())
 }

@@ -3,7 +3,6 @@ ghost use Rattle.std.specs.Prelude.{◌≡◌};
 ghost use Rattle.texts.specs.Kept.{no_text, typed};
 ghost use Rattle.phrases.specs.Refusals.{side as side_of, not_whole, refusal, attempt as attempt_of, reason as reason_of, trouble};
 
-use crate::word;
 use texts::Text;
 
 #[tactic(auto, unfolding(crate::specs::Refusals::side, texts::specs::Spelled::spelled))]
@@ -12,9 +11,9 @@ fn side(whole: u32, n: usize) -> Text
 {
     let t = Text::new();
     if (whole as usize) < n {
-        return word(t, b": refused 7 (over ");
+        return t.word(b": refused 7 (over ");
     }
-    word(t, b": refused 7 (under ")
+    t.word(b": refused 7 (under ")
 }
 
 #[tactic(auto, using(texts::proofs::Typing::typed_append), unfolding(crate::specs::Refusals::not_whole, texts::specs::Spelled::spelled))]
@@ -22,7 +21,7 @@ fn not_whole(whole: u32, n: usize) -> Text
     ensures { result ≡ typed no_text (not_whole whole n) }
 {
     let t = side(whole, n).decimal(whole);
-    word(t, b" bytes)\n")
+    t.word(b" bytes)\n")
 }
 
 // Why an image of n bytes that should have so many is refused, by the code of the refusal.
@@ -33,8 +32,8 @@ pub fn refusal_line(code: u8, whole: u32, n: usize) -> Text
 {
     match code {
         7 => not_whole(whole, n),
-        8 => word(Text::new(), b": refused 8 (contents differ)\n"),
-        _ => word(Text::new(), b": refused 9 (bodies unsound)\n"),
+        8 => Text::new().word(b": refused 8 (contents differ)\n"),
+        _ => Text::new().word(b": refused 9 (bodies unsound)\n"),
     }
 }
 
@@ -44,9 +43,9 @@ fn attempt(writing: bool) -> Text
 {
     let t = Text::new();
     if writing {
-        return word(t, b": cannot be written: ");
+        return t.word(b": cannot be written: ");
     }
-    word(t, b": cannot be read: ")
+    t.word(b": cannot be read: ")
 }
 
 // Why the system refuses a call on a file, as far as the reason has words of its own.
@@ -65,12 +64,12 @@ fn reason(t: Text, why: Trouble) -> Text
     ensures { result ≡ typed t (reason_of why) }
 {
     match why {
-        Trouble::NoEntry => word(t, b"no such file or folder\n"),
-        Trouble::NotPermitted => word(t, b"not permitted\n"),
-        Trouble::Folder => word(t, b"a folder\n"),
-        Trouble::NotInFolder => word(t, b"not in a folder\n"),
-        Trouble::NoSpace => word(t, b"no space\n"),
-        Trouble::Other => word(t, b"the system refuses\n"),
+        Trouble::NoEntry => t.word(b"no such file or folder\n"),
+        Trouble::NotPermitted => t.word(b"not permitted\n"),
+        Trouble::Folder => t.word(b"a folder\n"),
+        Trouble::NotInFolder => t.word(b"not in a folder\n"),
+        Trouble::NoSpace => t.word(b"no space\n"),
+        Trouble::Other => t.word(b"the system refuses\n"),
     }
 }
 

@@ -172,7 +172,6 @@ use Rattle.words.specs.contracts.either as words·either
 use Rattle.words.specs.contracts.bit_cell as words·bit-cell
 use Rattle.words.specs.contracts.yes_cell as words·yes-cell
 use Rattle.words.specs.contracts.number_cell as words·number-cell
-use Rattle.phrases.specs.contracts.word as phrases·word
 use Rattle.phrases.specs.contracts.refusal_line as phrases·refusal-line
 use Rattle.phrases.specs.contracts.trouble_line as phrases·trouble-line
 use Rattle.measure.specs.contracts.Measure.start as measure·Measure-start
@@ -258,6 +257,7 @@ use Rattle.step.specs.contracts.has_caught as step·has-caught
 use Rattle.step.specs.contracts.untimed as step·untimed
 use Rattle.texts.specs.contracts.glyph as texts·glyph
 use Rattle.texts.specs.contracts.Text.decimal as texts·Text-decimal
+use Rattle.texts.specs.contracts.Text.word as texts·Text-word
 use Rattle.texts.specs.contracts.Text.hex as texts·Text-hex
 use Rattle.texts.specs.contracts.Text.nibble as texts·Text-nibble
 use Rattle.texts.specs.contracts.Text.flag as texts·Text-flag
@@ -625,9 +625,6 @@ module _ {M : Type 1} (𝓤 : Ura M) where
   pub words-number-cell : OneResult 𝓤 words·number-cell.ended words·number-cell.clauses
   words-number-cell = one-result 𝓤 words·number-cell.ended words·number-cell.clauses (λ κs a. typed a.0 (number_cell a.1.0)) refl
 
-  pub phrases-word : OneResult 𝓤 phrases·word.ended phrases·word.clauses
-  phrases-word = one-result 𝓤 phrases·word.ended phrases·word.clauses (λ κs a. typed a.0 a.1.0.now) refl
-
   pub phrases-refusal-line : OneResult 𝓤 phrases·refusal-line.ended phrases·refusal-line.clauses
   phrases-refusal-line =
       one-result 𝓤 phrases·refusal-line.ended phrases·refusal-line.clauses
@@ -917,6 +914,9 @@ module _ {M : Type 1} (𝓤 : Ura M) where
 
   pub texts-Text-decimal : OneResult 𝓤 texts·Text-decimal.ended texts·Text-decimal.clauses
   texts-Text-decimal = one-result 𝓤 texts·Text-decimal.ended texts·Text-decimal.clauses (λ κs a. typed a.0 (decimal_text a.1.0)) refl
+
+  pub texts-Text-word : OneResult 𝓤 texts·Text-word.ended texts·Text-word.clauses
+  texts-Text-word = one-result 𝓤 texts·Text-word.ended texts·Text-word.clauses (λ κs a. typed a.0 a.1.0.now) refl
 
   pub texts-Text-hex : OneResult 𝓤 texts·Text-hex.ended texts·Text-hex.clauses
   texts-Text-hex = one-result 𝓤 texts·Text-hex.ended texts·Text-hex.clauses (λ κs a. typed a.0 (hex_text a.1.0)) refl

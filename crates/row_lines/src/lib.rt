@@ -1,101 +1,68 @@
 // The lines of a board, read as events of a row, and the bytes of its answers.
 #![tactic(auto)]
 
-ghost use Rattle.std.specs.Prelude.{◌≡◌, ◌-◌, drop};
+ghost use Rattle.std.specs.Prelude.{◌≡◌, drop};
 ghost use Rattle.texts.specs.Kept.{no_text, typed};
 ghost use Rattle.lines.specs.Lines.{event_in, says_of};
 ghost use Rattle.lines.specs.Pieces.{cut_from};
-ghost use Rattle.row_lines.specs.RowLines.{unreadable as unreadable_of, names_device, of_device, of_all, row_says, row_line, head_text, alone as alone_of, device_text};
+ghost use Rattle.row_lines.specs.RowLines.{of_device, of_all, row_says, row_line, head_text, alone as alone_of, device_text};
 
 use rows::{RowAnswer, RowEvent, Shown};
 use rules::{Answer, Event};
-use texts::{ROOM, Text};
+use texts::Text;
 
 // The most bytes of a line.
 const MOST: usize = 80;
 
 // An unreadable line is answered as a kind above 6 is.
-fn unreadable() -> RowEvent
-    ensures { result ≡ unreadable_of }
-{
-    RowEvent {
-        device: 0,
-        event: Event {
-            kind: 7,
-            a: 0,
-            b: 0,
-            c: 0,
-        },
-    }
-}
+const UNREADABLE: RowEvent = RowEvent {
+    device: 0,
+    event: lines::UNREADABLE,
+};
 
 // W, R, P and X have a device before them.
 #[tactic(auto, unfolding(crate::specs::RowLines::of_device))]
-fn of_device(device: u32, e: Event) -> RowEvent
-    ensures { result ≡ of_device device e }
+fn of_device(device: u32, event: Event) -> RowEvent
+    ensures { result ≡ of_device device event }
 {
-    if !rows::names(e) {
-        return unreadable();
+    if !rows::names(event) {
+        return UNREADABLE;
     }
-    RowEvent { device, event: e }
+    RowEvent { device, event }
 }
 
 // And T, K and E none.
 #[tactic(auto, unfolding(crate::specs::RowLines::of_all))]
-fn of_all(e: Event) -> RowEvent
-    ensures { result ≡ of_all e }
+fn of_all(event: Event) -> RowEvent
+    ensures { result ≡ of_all event }
 {
-    if rows::names(e) {
-        return unreadable();
+    if rows::names(event) {
+        return UNREADABLE;
     }
-    RowEvent {
-        device: 0,
-        event: e,
-    }
-}
-
-// Whether a line begins with a digit and a space.
-#[tactic(auto, unfolding(crate::specs::RowLines::names_device))]
-fn names_device(s: &[u8]) -> bool
-    ensures { result ≡ names_device s.now }
-{
-    let d = basics::byte_at(s, 0);
-    let b = basics::byte_at(s, 1);
-    (1 < s.len()) & ((b'0' <= d) & (d <= b'9')) & (b == b' ')
-}
-
-// The value of a digit.
-fn digit(b: u8) -> u32
-    ensures { result ≡ b - 48 }
-{
-    if b < b'0' {
-        return 0;
-    }
-    (b - b'0') as u32
+    RowEvent { device: 0, event }
 }
 
 // A line from the place 2 on.
 fn rest(s: &[u8]) -> Text
     ensures { result ≡ (cut_from no_text 2 (drop 2 s.now)).text }
 {
-    let c = lines::cut_from(Text::new(), s, 2);
-    let t = c.text;
-    t
+    lines::cut_from(Text::new(), s, 2).text
 }
 
-// What the bytes of a line say.
-#[tactic(auto, unfolding(crate::specs::RowLines::row_says))]
+// What the bytes of a line say that is kept: a line that begins with a digit and a space says of a device what the rest of it says.
+#[tactic(auto, unfolding(crate::specs::RowLines::row_says, crate::specs::RowLines::names_device))]
 fn said(s: &[u8], t: Text) -> RowEvent
     ensures { result ≡ row_says s.now (event_in (says_of t)) }
 {
     if MOST < s.len() {
-        return unreadable();
+        return UNREADABLE;
     }
-    if names_device(s) {
-        let n = digit(basics::byte_at(s, 0));
-        return of_device(n, lines::event_of_line(rest(s)));
+    match s {
+        [d @ b'0'..=b'9', b' ', ..] => {
+            of_device((*d - b'0').into(), lines::event_of_line(rest(s)))
+        }
+        _ => of_all(lines::event_of_line(t)),
     }
-    of_all(lines::event_of_line(t))
 }
 
 // The event of a line that is kept.
@@ -103,12 +70,10 @@ fn said(s: &[u8], t: Text) -> RowEvent
 pub fn event_of_line(t: Text) -> RowEvent
     ensures { result ≡ row_line t }
 {
-    let n = t.len;
-    if ROOM < n {
-        return of_all(lines::event_of_line(t));
+    match t.bytes.get(..t.len) {
+        Some(s) => said(s, t),
+        None => of_all(lines::event_of_line(t)),
     }
-    let b = t.bytes;
-    said(&b[..n], t)
 }
 
 // The code and the value of an answer.

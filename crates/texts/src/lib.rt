@@ -49,6 +49,18 @@ impl Text {
         t
     }
 
+    // The bytes of a word.
+    #[tactic(auto, unfolding(crate::specs::Kept::typed), using(std::proofs::lemmas::List::at_drop_more, std::proofs::lemmas::List::at_drop_all))]
+    pub fn word(self, w: &[u8]) -> Text
+        ensures { result ≡ typed self w.now }
+    {
+        let mut t = self;
+        for b in w {
+            t = t.push(*b);
+        }
+        t
+    }
+
     // A space and a byte in two digits.
     #[tactic(auto, unfolding(crate::specs::Kept::typed, crate::specs::Answers::hex_text))]
     pub fn hex(self, n: u8) -> Text

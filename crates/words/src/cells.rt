@@ -5,7 +5,6 @@ ghost use Rattle.texts.specs.Kept.{no_text, typed};
 ghost use Rattle.words.specs.Cells.{bit_cell, yes_cell, byte_cell, digit_or_space, number_cell};
 ghost use Rattle.words.specs.Shown.{named as named_of};
 
-use phrases::word;
 use texts::{Text, glyph};
 
 // Dk of a byte.
@@ -22,7 +21,7 @@ pub fn label(rows: &[[u8; 16]], row: usize) -> Text
     ensures { result ≡ typed no_text (get_or rows.now row []) }
 {
     match rows.get(row) {
-        Some(w) => word(Text::new(), w),
+        Some(w) => Text::new().word(w),
         None => Text::new(),
     }
 }
@@ -32,7 +31,7 @@ pub fn label(rows: &[[u8; 16]], row: usize) -> Text
 pub(crate) fn named(t: Text, w: &[u8], f: bool) -> Text
     ensures { result ≡ typed t (named_of w.now f) }
 {
-    word(t, w).push(if f { b'1' } else { b'0' })
+    t.word(w).push(if f { b'1' } else { b'0' })
 }
 
 // One of two words.
@@ -40,9 +39,9 @@ pub fn either(t: Text, f: bool, yes: &[u8; 12], no: &[u8; 12]) -> Text
     ensures { result ≡ typed t (cond f yes.now no.now) }
 {
     if f {
-        return word(t, yes);
+        return t.word(yes);
     }
-    word(t, no)
+    t.word(no)
 }
 
 #[tactic(auto, unfolding(crate::specs::Cells::bit_cell, texts::specs::Spelled::spelled))]
@@ -63,7 +62,7 @@ pub fn yes_cell(t: Text, f: bool) -> Text
 pub(crate) fn byte_cell(t: Text, n: u8) -> Text
     ensures { result ≡ typed t (byte_cell n) }
 {
-    word(t, b"          ").push(glyph(n / 16)).push(glyph(n))
+    t.word(b"          ").push(glyph(n / 16)).push(glyph(n))
 }
 
 // The digit at the place of a power of ten, or a space.
@@ -82,7 +81,7 @@ fn digit(p: u32, n: u32) -> u8
 pub fn number_cell(t: Text, n: u32) -> Text
     ensures { result ≡ typed t (number_cell n) }
 {
-    word(t, b"       ")
+    t.word(b"       ")
         .push(digit(10000, n))
         .push(digit(1000, n))
         .push(digit(100, n))

@@ -5,7 +5,6 @@ ghost use Rattle.words.specs.Shown.{mode_cell, count_shown, frozen_cell, counter
 
 use crate::cells::{bit, bit_cell, either, label, number_cell, yes_cell};
 use basics::Place;
-use phrases::word;
 use rules::{Counter, Device};
 use texts::Text;
 
@@ -51,9 +50,9 @@ fn mode_cell(t: Text, mode: u8) -> Text
     ensures { result ≡ typed t (mode_cell mode) }
 {
     match mode % 4 {
-        0 => word(t, b"       pulse"),
-        1 => word(t, b"    one-shot"),
-        _ => word(t, b"      square"),
+        0 => t.word(b"       pulse"),
+        1 => t.word(b"    one-shot"),
+        _ => t.word(b"      square"),
     }
 }
 
@@ -75,7 +74,7 @@ fn frozen_cell(t: Text, rcc: bool, n: u16) -> Text
     if rcc {
         return number_cell(t, n as u32);
     }
-    word(t, b"           -")
+    t.word(b"           -")
 }
 
 #[tactic(auto, unfolding(crate::specs::Shown::counter_cell, crate::specs::Shown::again_cell, texts::specs::Spelled::spelled, crate::specs::Shown::counts_cell, crate::specs::Shown::half_cell))]

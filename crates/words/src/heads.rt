@@ -4,7 +4,6 @@ ghost use Rattle.texts.specs.Kept.{no_text, typed};
 ghost use Rattle.words.specs.Shown.{pointer_line, version_line, master_line, link_line, levels_line, request_line, acknowledge_line};
 
 use crate::cells::{bit, byte_cell, named};
-use phrases::word;
 use rules::Device;
 use texts::Text;
 
@@ -31,9 +30,9 @@ pub(crate) fn version_line(version: u8) -> Text
 {
     let t = Text::new();
     if version == 1 {
-        return word(t, b"version         1\n");
+        return t.word(b"version         1\n");
     }
-    word(t, b"version         2\n")
+    t.word(b"version         2\n")
 }
 
 // What a Z8536 has beside its core: the pointer, and 1 where it was set just now.
@@ -41,7 +40,7 @@ pub(crate) fn version_line(version: u8) -> Text
 pub fn pointer_line(pointer: u8, pointed: bool) -> Text
     ensures { result ≡ typed no_text (pointer_line pointer pointed) }
 {
-    let t = byte_cell(word(Text::new(), b"Z8536 pointer   "), pointer);
+    let t = byte_cell(Text::new().word(b"Z8536 pointer   "), pointer);
     named(t, b"  state ", pointed).push(b'\n')
 }
 
@@ -66,10 +65,10 @@ pub(crate) fn link_line(lc: u8) -> Text
 {
     let t = Text::new();
     match lc {
-        0 => word(t, b"CT1's output    is not linked to CT2\n"),
-        1 => word(t, b"CT1's output    gates CT2\n"),
-        2 => word(t, b"CT1's output    triggers CT2\n"),
-        _ => word(t, b"CT1's output    is what CT2 counts\n"),
+        0 => t.word(b"CT1's output    is not linked to CT2\n"),
+        1 => t.word(b"CT1's output    gates CT2\n"),
+        2 => t.word(b"CT1's output    triggers CT2\n"),
+        _ => t.word(b"CT1's output    is what CT2 counts\n"),
     }
 }
 
@@ -90,12 +89,12 @@ pub(crate) fn request_line(k: u8) -> Text
 {
     let t = Text::new();
     match k {
-        1 => word(t, b"requesting      place 1, CT3\n"),
-        2 => word(t, b"requesting      place 2, port A\n"),
-        3 => word(t, b"requesting      place 3, CT2\n"),
-        4 => word(t, b"requesting      place 4, port B\n"),
-        5 => word(t, b"requesting      place 5, CT1\n"),
-        _ => word(t, b"requesting      place 0, nobody\n"),
+        1 => t.word(b"requesting      place 1, CT3\n"),
+        2 => t.word(b"requesting      place 2, port A\n"),
+        3 => t.word(b"requesting      place 3, CT2\n"),
+        4 => t.word(b"requesting      place 4, port B\n"),
+        5 => t.word(b"requesting      place 5, CT1\n"),
+        _ => t.word(b"requesting      place 0, nobody\n"),
     }
 }
 
@@ -103,9 +102,9 @@ pub(crate) fn request_line(k: u8) -> Text
 pub(crate) fn acknowledge_line(d: Device) -> Text
     ensures { result ≡ typed no_text (acknowledge_line d) }
 {
-    let t = word(Text::new(), b"K would give    ");
+    let t = Text::new().word(b"K would give    ");
     if interrupts::requester_of(d).is_some() {
         return byte_cell(t, interrupts::acknowledge(d)).push(b'\n');
     }
-    word(t, b"code 6\n")
+    t.word(b"code 6\n")
 }

@@ -10,7 +10,6 @@ ghost use Rattle.words.specs.Shown.{port_cell, port_line, priority_cell, pattern
 
 use crate::cells::{bit_cell, byte_cell, label, number_cell, yes_cell};
 use basics::Place;
-use phrases::word;
 use rules::{Device, Transfer};
 use texts::Text;
 
@@ -76,7 +75,7 @@ fn priority_mode(t: Text, d: Device, p: Place<2>) -> Text
     let q = d.patterns[p.index()];
     let enabled = levels::port_enabled(d, p.index());
     let seen = levels::seen_at(d, p.index());
-    let u = word(t, b"  priority ");
+    let u = t.word(b"  priority ");
     if step::matches(enabled, q, seen, seen) {
         return u.push(b'0' + ports::highest(enabled, q, seen));
     }
@@ -88,10 +87,10 @@ fn pattern_mode(t: Text, d: Device, p: Place<2>) -> Text
     ensures { result ≡ typed t (pattern_mode d p) }
 {
     match d.patterns[p.index()].mode / 2 % 4 {
-        1 => word(t, b"         AND"),
-        2 => word(t, b"          OR"),
+        1 => t.word(b"         AND"),
+        2 => t.word(b"          OR"),
         3 => priority_mode(t, d, p),
-        _ => word(t, b"         off"),
+        _ => t.word(b"         off"),
     }
 }
 

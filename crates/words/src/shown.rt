@@ -11,7 +11,6 @@ use crate::ports_shown::{
     PATTERN_ROWS, PORT_ROWS, TRANSFER_ROWS, pattern_line, port_line, transfer_line,
 };
 use crate::sources_shown::{ROWS as SOURCE_ROWS, source_line};
-use phrases::word;
 use rules::Device;
 use texts::Text;
 
@@ -43,10 +42,7 @@ fn head_line(d: Device, n: usize) -> Text
         0 => version_line(d.version),
         1 => master_line(d.master),
         2 => link_line(d.config % 4),
-        _ => word(
-            Text::new(),
-            b"port                       A           B           C\n",
-        ),
+        _ => Text::new().word(b"port                       A           B           C\n"),
     }
 }
 
@@ -72,13 +68,9 @@ pub fn line(d: Device, n: usize) -> Text
         PORTS..PATTERNS => port_line(d, n - PORTS),
         PATTERNS..TRANSFERS => pattern_line(d, n - PATTERNS),
         TRANSFERS..COUNTER_HEAD => transfer_line(d, n - TRANSFERS),
-        COUNTER_HEAD => word(
-            Text::new(),
-            b"counter                  CT1         CT2         CT3\n",
-        ),
+        COUNTER_HEAD => Text::new().word(b"counter                  CT1         CT2         CT3\n"),
         COUNTERS..SOURCE_HEAD => counter_line(d, n - COUNTERS),
-        SOURCE_HEAD => word(
-            Text::new(),
+        SOURCE_HEAD => Text::new().word(
             b"source                   CT3           A         CT2           B         CT1\n",
         ),
         SOURCES..TAIL => source_line(d, n - SOURCES),

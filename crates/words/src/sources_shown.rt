@@ -4,7 +4,6 @@ ghost use Rattle.texts.specs.Kept.{no_text, typed};
 ghost use Rattle.words.specs.Shown.{source_cell, source_line};
 
 use crate::cells::{bit_cell, label};
-use phrases::word;
 use rules::{Device, Source};
 use texts::Text;
 

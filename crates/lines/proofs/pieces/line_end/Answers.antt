@@ -1,24 +1,11 @@
-use native.Mathlib.Omega.{arith}
-use Rattle.lines.proofs.Cutting.{feed-here, feed-later, feed-none}
+use Prim.Native.Nat.{ℕ, ◌+◌}
+use mathlib.Core.Path.{ap}
+use Rattle.lines.specs.Pieces.{feed_at}
+use Rattle.lines.proofs.Cutting.{feed_or_end}
 use Rattle.lines.proofs.pieces.line_end.Goals as goal
-
-pub returns-then-piece-i-eq10 : goal.returns-then-piece-i-eq10
-returns-then-piece-i-eq10 c =
-    let l = c.loop-i in
-    let h = feed-here l.i c.args.piece.now c.loop-i-test.true c.if-piece-i-eq10.true in
-    let e = l.invariant in
-    omega arith
-
-pub loop-i-preserved : goal.loop-i-preserved
-loop-i-preserved c =
-    let l = c.loop-i in
-    let h = feed-later l.i c.args.piece.now c.loop-i-test.true c.if-piece-i-eq10.false in
-    let e = l.invariant in
-    omega arith
 
 pub returns : goal.returns
 returns c =
-    let l = c.loop-i in
-    let h = feed-none l.i c.args.piece.now c.loop-i-test.false in
-    let e = l.invariant in
-    omega arith
+    let f = feed_or_end c.rest-rest.result.now in
+    let e = ap feed_at c.rest-rest.ensures in
+    ap (λ (k : ℕ). c.args.at + k) (cc (f, e, c.unwrap_or.ensures, c.first_feed.ensures))

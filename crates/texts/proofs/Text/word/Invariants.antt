@@ -1,7 +1,7 @@
 use lib.ListN.{drop}
 use mathlib.Core.Path.{◌≡◌}
 use Rattle.texts.specs.Kept.{typed}
-use Rattle.phrases.proofs.word.Given as goal
+use Rattle.texts.proofs.Text.word.Given as goal
 
 abbrev pub invariant-loop-b : goal.invariant-loop-b
-invariant-loop-b l = typed l.u (drop l.b-index l.w) ≡ typed l.fn.t l.fn.w
+invariant-loop-b l = typed l.t (drop l.b-index l.w) ≡ typed l.fn.self l.fn.w
