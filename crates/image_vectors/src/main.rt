@@ -68,57 +68,28 @@ fn print_bytes<W: Write>(out: &mut W, b: &[u8]) {
     }
 }
 
-fn print_first<W: Write>(out: &mut W, b: &[u8], n: usize) {
-    if n > b.len() {
-        return;
-    }
-    print_bytes(out, &b[0..n]);
-}
-
-fn print_image<W: Write>(out: &mut W, d: Device) {
-    let mut buf = [0u8; Device::IMAGE];
-    let _ = image::save(d, &mut buf);
-    write_all(out, b" ");
-    print_first(out, &buf, Device::image_len(d.version));
-}
-
-fn print_image_z8536<W: Write>(out: &mut W, z: Z8536) {
-    let mut buf = [0u8; Z8536::IMAGE];
-    let _ = image::save_z8536(z, &mut buf);
-    write_all(out, b" ");
-    print_bytes(out, &buf);
-}
-
-fn print_code<W: Write>(out: &mut W, b: &[u8], n: usize) {
-    if n > b.len() {
-        return;
-    }
-    let r = image::restore(&b[0..n]);
-    print_decimal(out, r.code as u64);
-    if r.code == 0 {
-        print_image(out, r.device);
-    }
-    write_all(out, b"\n");
-}
-
-fn print_code_z8536<W: Write>(out: &mut W, b: &[u8], n: usize) {
-    if n > b.len() {
-        return;
-    }
-    let r = image::restore_z8536(&b[0..n]);
-    print_decimal(out, r.code as u64);
-    if r.code == 0 {
-        print_image_z8536(out, r.device);
+// A code; with 0 the image.
+fn print_code<W: Write>(out: &mut W, code: u8, image: &[u8]) {
+    print_decimal(out, code as u64);
+    if code == 0 {
+        write_all(out, b" ");
+        print_bytes(out, image);
     }
     write_all(out, b"\n");
 }
 
 fn print_line<W: Write>(out: &mut W, l: Line) {
-    let b = l.bytes;
+    let b = &l.bytes[..(l.digits / 2).min(128)];
+    let mut buf = [0; Z8536::IMAGE];
     if l.z8536 {
-        print_code_z8536(out, &b, l.digits / 2);
+        let r = image::restore_z8536(b);
+        let _ = image::save_z8536(r.device, &mut buf);
+        print_code(out, r.code, &buf);
     } else {
-        print_code(out, &b, l.digits / 2);
+        let r = image::restore(b);
+        let _ = image::save(r.device, &mut buf);
+        let n = Device::image_len(r.device.version).min(buf.len());
+        print_code(out, r.code, &buf[..n]);
     }
 }
 
@@ -128,9 +99,7 @@ fn next<W: Write>(out: &mut W, l: Line, c: u8) -> Line {
         return empty();
     }
     if c == b'Z' {
-        let mut m = l;
-        m.z8536 = true;
-        return m;
+        return Line { z8536: true, ..l };
     }
     with_digit(l, c)
 }
@@ -144,27 +113,18 @@ fn print_codes<W: Write>(out: &mut W, l: Line, piece: &[u8]) -> Line {
     m
 }
 
-// What is left of a line, and whether there may be more of the input.
-#[derive(Clone, Copy)]
-struct Turn {
-    line: Line,
-    more: bool,
-}
-
-// Reads once, and prints what came.
-fn print_some<R: Read, W: Write>(out: &mut W, l: Line, input: &mut R, text: &mut [u8]) -> Turn {
+// Reads once, prints what came, and hands on what is left of a line; at the end of the input nothing.
+fn print_some<R: Read, W: Write>(
+    out: &mut W,
+    l: Line,
+    input: &mut R,
+    text: &mut [u8],
+) -> Option<Line> {
     let n = streams::read_full(input, text);
     if n == 0 {
-        return Turn {
-            line: l,
-            more: false,
-        };
+        return None;
     }
-    let m = print_codes(out, l, &text[..n]);
-    Turn {
-        line: m,
-        more: true,
-    }
+    Some(print_codes(out, l, &text[..n]))
 }
 
 // (A proved loop has to end: its turns are counted.)
@@ -174,10 +134,9 @@ fn main(rt: HostRuntime) {
     let mut text = [0; LARGE_BUFFER];
     let mut l = empty();
     for _ in 0..u64::MAX {
-        let t = print_some(&mut out, l, &mut input, &mut text);
-        if !t.more {
-            return;
+        match print_some(&mut out, l, &mut input, &mut text) {
+            Some(left) => l = left,
+            None => return,
         }
-        l = t.line;
     }
 }

@@ -45,15 +45,7 @@ fn counted(of: [u8; CODES], b: u8) -> [u8; CODES] {
 }
 
 fn ask(d: Device, kind: u32, a: u32, b: u32, c: u32) -> Outcome<Device> {
-    event::event(
-        d,
-        Event {
-            kind: kind,
-            a: a,
-            b: b,
-            c: c,
-        },
-    )
+    event::event(d, Event { kind, a, b, c })
 }
 
 // Port B as an Interlocked output port of two bytes, with ACKIN high.
@@ -67,60 +59,48 @@ fn set_up() -> Device {
 
 // The host: the next code is written where D3 of 09, ORE, is 1.
 fn host<W: Write>(out: &mut W, l: Ledger) -> Ledger {
-    let d = l.device;
-    let i = l.next;
-    if i >= CODES {
+    if l.next >= CODES {
         return l;
     }
-    let r = ask(d, Event::R, 0x09, 0, 0);
+    let r = ask(l.device, Event::R, 0x09, 0, 0);
     let ore = r.answer.value / 8 % 2 == 1;
     if !ore {
         return l;
     }
-    let b = code(i);
-    let w = ask(d, Event::W, 0x0E, b as u32, 0);
+    let b = code(l.next);
+    let w = ask(l.device, Event::W, 0x0E, b as u32, 0);
     if w.answer.code != 0 {
         return l;
     }
     say(out, b"written ", b);
-    let before = l.written;
-    let now = counted(before, b);
-    let after = w.device;
     Ledger {
-        device: after,
-        next: i + 1,
-        written: now,
+        device: w.device,
+        next: l.next + 1,
+        written: counted(l.written, b),
         ..l
     }
 }
 
 // The outside: ACKIN falls while DAV, at PC1, is low, and the byte at the pins is taken; the next time it rises.
 fn outside<W: Write>(out: &mut W, l: Ledger) -> Ledger {
-    let d = l.device;
     if l.low {
-        let up = ask(d, Event::P, 0x00, 0x00, 0x01);
-        let after = up.device;
         return Ledger {
-            device: after,
+            device: ask(l.device, Event::P, 0x00, 0x00, 0x01).device,
             low: false,
             ..l
         };
     }
-    let seen = ask(d, Event::T, 0, 0, 0);
+    let seen = ask(l.device, Event::T, 0, 0, 0);
     let offered = seen.answer.c / 2 % 2 == 0;
     if !offered {
         return l;
     }
     let b = seen.answer.b;
     say(out, b"left    ", b);
-    let before = l.left;
-    let now = counted(before, b);
-    let down = ask(d, Event::P, 0x00, 0x00, 0x00);
-    let after = down.device;
     Ledger {
-        device: after,
+        device: ask(l.device, Event::P, 0x00, 0x00, 0x00).device,
         low: true,
-        left: now,
+        left: counted(l.left, b),
         ..l
     }
 }
@@ -155,40 +135,30 @@ fn night<W: Write>(out: &mut W, l: Ledger) -> Ledger {
     }
 }
 
-fn day_and_night<W: Write>(out: &mut W, l: Ledger) -> Ledger {
-    let evening = day(out, l);
-    night(out, evening)
-}
-
 // The ledger: each code, how often it was written and how often it has left.
-fn print_code<W: Write>(out: &mut W, l: Ledger, i: usize) {
-    if i < CODES {
+fn print_ledger<W: Write>(out: &mut W, l: Ledger) {
+    for i in 0..CODES {
         say(out, b"code ", code(i));
         say(out, b"  written ", l.written[i]);
         say(out, b"  left    ", l.left[i]);
     }
 }
 
-fn print_ledger<W: Write>(out: &mut W, l: Ledger) {
-    for i in 0..CODES {
-        print_code(out, l, i);
-    }
-}
-
 fn main(rt: HostRuntime) {
     let mut out = rt.stdout();
-    let start = Ledger {
+    let mut l = Ledger {
         device: set_up(),
         next: 0,
         low: false,
         written: [0; CODES],
         left: [0; CODES],
     };
-    let first = day_and_night(&mut out, start);
-    let second = day_and_night(&mut out, first);
-    let third = day_and_night(&mut out, second);
-    let fourth = day(&mut out, third);
-    let fifth = day(&mut out, fourth);
-    let last = day(&mut out, fifth);
-    print_ledger(&mut out, last);
+    for _ in 0..3u8 {
+        let evening = day(&mut out, l);
+        l = night(&mut out, evening);
+    }
+    for _ in 0..3u8 {
+        l = day(&mut out, l);
+    }
+    print_ledger(&mut out, l);
 }
