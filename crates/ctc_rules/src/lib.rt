@@ -48,6 +48,7 @@ impl Ctc {
 }
 
 // A channel after a count or a clock, and whether that was a zero count.
+// Stays: in one type with the next, `zeros` would be here a bool.
 #[derive(Clone, Copy)]
 pub struct Zeroed {
     pub channel: Channel,

@@ -43,6 +43,7 @@ pub(crate) fn rise(k: Place<5>, device: Device, n: u32) -> u32
         passed: 0,
         left: n,
     };
+    // Stays: no index is counted, what is left is halved.
     while 1 < s.left {
         s = halved(k, s);
     }

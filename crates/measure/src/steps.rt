@@ -102,6 +102,7 @@ pub(crate) fn ticked(n: u32, d: Device, f: Device, m: Measure) -> Measure
     if n == 0 {
         return m;
     }
+    // Stays: by a `map` over the five places what `over` requires was not proved at each.
     Measure {
         clocks: m.clocks + n,
         waits: [

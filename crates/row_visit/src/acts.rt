@@ -18,6 +18,7 @@ fn misfit(s: Pass) -> bool
 }
 
 // The code of an event, after the pass that looked.
+// Stays: a number, as the code is that the pass has in its answer.
 #[tactic(auto, unfolding(crate::specs::Visits::verdict_of, rules::specs::Refusals::number_of))]
 fn verdict(s: Pass) -> u8
     ensures { result ≡ verdict_of s }
