@@ -44,32 +44,10 @@ pub fn hits(p: Pattern, before: u8, after: u8) -> u8
 }
 
 // The number of the highest bit that is 1, or 0.
-#[tactic(auto, unfolding(rules::specs::Patterns::highest_of))]
 fn highest_bit(b: u8) -> u8
     ensures { result ≡ highest_of (bit b) }
 {
-    if b / 128 % 2 == 1 {
-        return 7;
-    }
-    if b / 64 % 2 == 1 {
-        return 6;
-    }
-    if b / 32 % 2 == 1 {
-        return 5;
-    }
-    if b / 16 % 2 == 1 {
-        return 4;
-    }
-    if b / 8 % 2 == 1 {
-        return 3;
-    }
-    if b / 4 % 2 == 1 {
-        return 2;
-    }
-    if b / 2 % 2 == 1 {
-        return 1;
-    }
-    0
+    7 - (b | 1).leading_zeros() as u8
 }
 
 // The number of the highest bit that matches, or 0.

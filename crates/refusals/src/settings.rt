@@ -2,6 +2,7 @@
 ghost use Rattle.std.specs.Prelude.{◌≡◌, cond, ◌<◌, ◌==◌};
 ghost use Rattle.rules.specs.Registers.{port_of, later_port_mode, later_handshake, later_priority, later_config, later_counter_mode, later};
 
+use basics::Place;
 use rules::Device;
 
 // The last of the port types that are not left to later requests: version 1 has bit ports alone.
@@ -51,10 +52,12 @@ pub(crate) fn later_counter_mode(b: u32) -> bool
 }
 
 #[tactic(auto, unfolding(rules::specs::Registers::port_of))]
-fn port_of(a: u32) -> usize
-    ensures { (result ≡ port_of a) × (result < 2) }
+fn port_of(a: u32) -> Place<2>
+    ensures { result ≡ port_of a }
 {
-    if a < 0x28 { 0 } else { 1 }
+    Place {
+        at: if a < 0x28 { 0 } else { 1 },
+    }
 }
 
 // Whether the byte b is a setting left to later requests at the address a of the device.
@@ -62,7 +65,7 @@ fn port_of(a: u32) -> usize
 pub(crate) fn later(d: Device, a: u32, b: u32) -> bool
     ensures { result ≡ later d a b }
 {
-    let q = d.patterns[port_of(a)];
+    let q = d.patterns[port_of(a).index()];
     let port_mode = later_port_mode(d.version, b)
         | later_handshake(b, q.handshake as u32)
         | later_priority(b, q.transition as u32);
