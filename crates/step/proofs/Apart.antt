@@ -9,6 +9,7 @@ use lib.ListN.{length, set}
 use lib.Seq.{set-get_or}
 use Rattle.rules.specs.declared.Device.{Device}
 use Rattle.rules.specs.declared.Counter.{Counter}
+use Rattle.rules.specs.declared.Port.{Port}
 use Rattle.rules.specs.declared.Pattern.{Pattern}
 use Rattle.rules.specs.declared.Source.{Source}
 use Rattle.rules.specs.declared.Fate.{Fate}
@@ -17,7 +18,7 @@ use Rattle.rules.specs.declared.Link.{Link}
 use Rattle.rules.specs.declared.Turned.{Turned}
 use Rattle.rules.specs.declared.Stepped.{Stepped}
 use Rattle.rules.specs.Record.{pattern_at, counter_at, source_at, quiet, idle, blank}
-use Rattle.rules.specs.With.{with_pmf, with_pattern, with_patterns, with_counters, with_sources}
+use Rattle.rules.specs.With.{with_pmf, with_ports, with_pattern, with_patterns, with_counters, with_sources}
 use Rattle.rules.specs.Registers.{counter_enabled, lc}
 use Rattle.rules.specs.Handshakes.{is_line, ackin_at, offers_at, shown_at}
 use Rattle.rules.specs.Counters.{output_of, unlinked, link_of, reach_of, turn_of}
@@ -200,15 +201,15 @@ module _ (timer : Bool) (d0 d : Device) (patterns : length d.patterns ≡ 2) (co
   of_parts = sym (subst (λ (e : Device). step_of timer d0 e ≡ put (parts_of timer d0 e)) (sym whole) (written timer d0 d _ _ _ _ _ _ _ _ _ _))
 
   -- by what the calls of a step give, one after the other; w was seen before it, n after (a) and s after (e)
-  module _ {w n s : Looks} {one two three : Turn} {k : Link} {e : Device} {a b : Side}
+  module _ {w n s : Looks} {one two three : Turn} {k : Link} {ports : List Port} {a b : Side}
       (before : w ≡ looks_of d0)
       (now : n ≡ looks_of d)
       (first : one ≡ turn_at unlinked timer (w.b / 16) (n.b / 16) 0 d)
       (link : k ≡ link_of (lc d) (output_of d0.version (counter_at d0 0)) (output_of d.version one.counter))
       (second : two ≡ turn_at k timer (w.b % 16) (n.b % 16) 1 d)
       (third : three ≡ turn_at unlinked timer (w.c % 16) (n.c % 16) 2 d)
-      (caught : e ≡ catchers (counted d one two three))
-      (after : s ≡ looks_of e)
+      (caught : ports ≡ caught_at (counted d one two three) 0 ∷ caught_at (counted d one two three) 1 ∷ caught_at (counted d one two three) 2 ∷ [])
+      (after : s ≡ looks_of (with_ports (counted d one two three) ports))
       (in-a : a ≡ pattern_after 0 w.seen_a s.seen_a d)
       (in_b : b ≡ pattern_after 1 w.seen_b s.seen_b d) where
     abbrev parts : Parts
@@ -229,8 +230,11 @@ module _ (timer : Bool) (d0 d : Device) (patterns : length d.patterns ≡ 2) (co
     unfolding lines_at
     is-three = third ∙ (λ i. turn_at unlinked timer ((before i).c % 16) ((now i).c % 16) 2 d)
 
-    is-caught : e ≡ parts.caught
-    is-caught = caught ∙ (λ i. catchers (counted d (is_one i) (is-two i) (is-three i)))
+    is-caught : with_ports (counted d one two three) ports ≡ parts.caught
+    unfolding catchers
+    is-caught =
+        ap (with_ports (counted d one two three)) caught
+        ∙ (λ i. catchers (counted d (is_one i) (is-two i) (is-three i)))
 
     is-after : s ≡ looks_of parts.caught
     is-after = after ∙ ap looks_of is-caught
@@ -241,7 +245,7 @@ module _ (timer : Bool) (d0 d : Device) (patterns : length d.patterns ≡ 2) (co
     is_b : b ≡ parts.b
     is_b = in_b ∙ (λ i. pattern_after 1 (before i).seen_b (is-after i).seen_b d)
 
-    pub put-together : put (record { one = one; link = k; two = two; three = three; caught = e; a = a; b = b }) ≡ step_of timer d0 d
+    pub put-together : put (record { one = one; link = k; two = two; three = three; caught = with_ports (counted d one two three) ports; a = a; b = b }) ≡ step_of timer d0 d
     put-together =
         ap put
         (λ i. record { one = is_one i; link = is-link i; two = is-two i; three = is-three i; caught = is-caught i; a = is-a i; b = is_b i }) ∙ of_parts

@@ -5,7 +5,7 @@ mod pattern;
 mod seen;
 mod still;
 
-ghost use Rattle.std.specs.Prelude.{◌≡◌};
+ghost use Rattle.std.specs.Prelude.{◌≡◌, [], ◌∷◌};
 ghost use Rattle.rules.specs.Record.{counter_at};
 ghost use Rattle.rules.specs.Counters.{output_of, link_of, reach_of, turn_of};
 ghost use Rattle.rules.specs.PortData.{caught_of};
@@ -159,16 +159,23 @@ fn caught_at(d: Device, p: Place<3>) -> Port
     }
 }
 
+// The ports with their catchers.
+fn caught_ports(d: Device) -> [Port; 3]
+    ensures { result ≡ caught_at d 0 ∷ caught_at d 1 ∷ caught_at d 2 ∷ [] }
+{
+    let a = Place { at: 0 };
+    let b = Place { at: 1 };
+    let c = Place { at: 2 };
+    [caught_at(d, a), caught_at(d, b), caught_at(d, c)]
+}
+
 // The catchers of all ports.
 #[tactic(auto, unfolding(rules::specs::Step::catchers))]
 pub fn catch_all(d: Device) -> Device
     ensures { result ≡ catchers d }
 {
-    let a = Place { at: 0 };
-    let b = Place { at: 1 };
-    let c = Place { at: 2 };
     Device {
-        ports: [caught_at(d, a), caught_at(d, b), caught_at(d, c)],
+        ports: caught_ports(d),
         ..d
     }
 }
@@ -223,10 +230,9 @@ fn step_by(timer: bool, s0: Seen, s1: Seen) -> Stepped
     let k = link(d.config % 4, ct1_output(s0.device), output);
     let two = counter_turn(inputs(k, timer, w, n, CT2), CT2, d);
     let three = counter_turn(inputs(UNLINKED, timer, w, n, CT3), CT3, d);
-    let mut e = catch_all(Device {
-        counters: [one.counter, two.counter, three.counter],
-        ..d
-    });
+    let mut e = d;
+    e.counters = [one.counter, two.counter, three.counter];
+    e.ports = caught_ports(e);
     let s = levels::look(e);
     let a = pattern_turn(Place { at: 0 }, w.seen_a, s.seen_a, d);
     let b = pattern_turn(Place { at: 1 }, w.seen_b, s.seen_b, d);

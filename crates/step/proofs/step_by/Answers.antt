@@ -20,7 +20,7 @@ returns c =
     (c.link-k.ensures ∙ ap₂ (link_of _) c.ct1_output.ensures c.output-output.ensures)
     (c.counter_turn-two.ensures ∙ ap (turned_with 1 _) c.inputs-2.ensures)
     (c.counter_turn-three.ensures ∙ ap (turned_with 2 _) c.inputs-3.ensures)
-    c.catch_all-e.ensures
+    c.caught_ports-e.ensures
     c.look-s.ensures
     c.pattern_turn-a.ensures
     c.pattern_turn-b.ensures
