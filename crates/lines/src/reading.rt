@@ -6,7 +6,7 @@ use rules::Event;
 use texts::Text;
 
 // The most bytes of a line.
-const MOST: usize = 80;
+pub const MOST: usize = 80;
 
 // What an unreadable line is answered as: a kind above 6.
 pub const UNREADABLE: Event = Event {

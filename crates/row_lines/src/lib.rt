@@ -11,9 +11,6 @@ use rows::{RowAnswer, RowEvent, Shown};
 use rules::{Answer, Event};
 use texts::Text;
 
-// The most bytes of a line.
-const MOST: usize = 80;
-
 // An unreadable line is answered as a kind above 6 is.
 const UNREADABLE: RowEvent = RowEvent {
     device: 0,
@@ -54,7 +51,7 @@ fn rest(s: &[u8]) -> Text
 fn said(s: &[u8], t: Text) -> RowEvent
     ensures { result ≡ row_says s.now (event_in (says_of t)) }
 {
-    if MOST < s.len() {
+    if lines::MOST < s.len() {
         return UNREADABLE;
     }
     match s {

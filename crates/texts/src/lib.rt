@@ -15,6 +15,7 @@ use rules::Answer;
 pub const ROOM: usize = 96;
 
 // The bytes of a line, its first `len`; a `len` above ROOM says that they have no room.
+// Stays: a buffer with its length, since a push that finds no room is kept as such (texts/Kept.pushed), where a library's list would refuse it.
 #[derive(Clone, Copy)]
 pub struct Text {
     pub bytes: [u8; ROOM],

@@ -1,4 +1,5 @@
 // The line of an answer, written into a buffer where it belongs.
+// Stays: beside the methods of `Text`, since an answer that is made as a text first costs more instructions (docs/COSTS.md, the third part).
 ghost use Rattle.std.specs.Prelude.{[], ◌∷◌, ◌+◌, ◌≤◌, ◌<◌, length};
 ghost use Rattle.texts.specs.Kept.{text_room};
 ghost use Rattle.texts.specs.Answers.{hex_text, nibble_text, flag_text, place_text, decimal_text, count_text, counts_text, report_text, answer_text};
@@ -114,10 +115,8 @@ fn report(out: &mut [u8], at: usize, r: Report) -> usize
     requires { at + 66 ≤ length out.old }
     ensures { Wrote 66 out.old at (report_text r) out.new result }
 {
-    let terminals = r.terminals;
-    let lost = r.lost;
-    let i = counts(out, at, terminals);
-    counts(out, i, lost)
+    let i = counts(out, at, r.terminals);
+    counts(out, i, r.lost)
 }
 
 // The line of an answer, with its line feed.
@@ -126,7 +125,6 @@ pub(crate) fn answer(a: Answer, out: &mut [u8], at: usize) -> usize
     requires { at + text_room ≤ length out.old }
     ensures { Wrote 92 out.old at (answer_text a) out.new result }
 {
-    let r = a.report;
     let i = decimal(out, at, a.code as u32);
     let j = hex(out, i, a.value);
     let k = hex(out, j, a.a);
@@ -134,6 +132,6 @@ pub(crate) fn answer(a: Answer, out: &mut [u8], at: usize) -> usize
     let m = nibble(out, l, a.c);
     let n = flag(out, m, a.int);
     let o = flag(out, n, a.ieo);
-    let p = report(out, o, r);
+    let p = report(out, o, a.report);
     put(out, p, b'\n')
 }
