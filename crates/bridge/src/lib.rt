@@ -10,9 +10,9 @@ pub fn through(d: Device, e: Event) -> Outcome<Device>
     ensures { result ≡ event_of d e }
 {
     let mut after = d;
-    let n = inplace::event_in_place(&mut after, e);
+    let answer = inplace::event_in_place(&mut after, e);
     Outcome {
         device: after,
-        answer: n,
+        answer,
     }
 }

@@ -1,29 +1,18 @@
 // What an accepted event does: the record, the value and the report.
 ghost use Rattle.std.specs.Prelude.{◌≡◌, false, not, ◌&&◌, ◌==◌};
 ghost use Rattle.rules.specs.Registers.{reset};
-ghost use Rattle.rules.specs.Report.{no_report};
 ghost use Rattle.rules.specs.Events.{too_large, effect as plain, write_effect, read_effect, outside_set, pins_effect, clocks_effect, acknowledge_effect, iei_effect, effect_of};
 
 use rules::{Device, Effect, Event, Port, Report};
-
-pub(crate) fn no_report() -> Report
-    ensures { result ≡ no_report }
-{
-    Report {
-        terminals: [0; 3],
-        lost: [0; 3],
-    }
-}
 
 // With nothing to report.
 pub(crate) fn effect(d: Device, v: u8) -> Effect
     ensures { result ≡ plain d v }
 {
-    let none = no_report();
     Effect {
         device: d,
         value: v,
-        report: none,
+        report: Report::default(),
     }
 }
 
@@ -62,15 +51,15 @@ fn read_effect(d: Device, a: u32) -> Effect
 fn with_outside(d: Device, a: u8, b: u8, c: u8) -> Device
     ensures { result ≡ outside_set d a b c }
 {
-    let qa = d.ports[0];
-    let qb = d.ports[1];
-    let qc = d.ports[2];
-    let ra = Port { outside: a, ..qa };
-    let rb = Port { outside: b, ..qb };
-    let rc = Port { outside: c, ..qc };
-    let mut e = d;
-    e.ports = [ra, rb, rc];
-    e
+    let [qa, qb, qc] = d.ports;
+    Device {
+        ports: [
+            Port { outside: a, ..qa },
+            Port { outside: b, ..qb },
+            Port { outside: c, ..qc },
+        ],
+        ..d
+    }
 }
 
 #[tactic(auto, unfolding(rules::specs::Events::pins_effect))]
@@ -88,12 +77,10 @@ fn clocks_effect(d: Device, n: u32) -> Effect
     ensures { result ≡ clocks_effect d n }
 {
     let s = clocks::run(n, d);
-    let after = s.device;
-    let report = s.report;
     Effect {
-        device: after,
+        device: s.device,
         value: 0,
-        report: report,
+        report: s.report,
     }
 }
 
@@ -108,9 +95,7 @@ fn acknowledge_effect(d: Device) -> Effect
 fn iei_effect(d: Device, v: u32) -> Effect
     ensures { result ≡ iei_effect d v }
 {
-    let mut after = d;
-    after.iei = v == 1;
-    effect(after, 0)
+    effect(Device { iei: v == 1, ..d }, 0)
 }
 
 // What an accepted event does, none of whose numbers is too large.
@@ -119,15 +104,14 @@ pub(crate) fn effect_of(d: Device, e: Event) -> Effect
     requires { too_large e ≡ false }
     ensures { result ≡ effect_of d e }
 {
-    let k = e.kind;
-    match k {
+    match e.kind {
         // "Reset (X, or D0 written 1 to 00)"
-        0 => write_effect(d, 0x00, 0x01),
-        1 => write_effect(d, e.a, e.b as u8),
-        2 => read_effect(d, e.a),
-        3 => pins_effect(d, e.a as u8, e.b as u8, e.c as u8),
-        4 => clocks_effect(d, e.a),
-        5 => acknowledge_effect(d),
+        Event::X => write_effect(d, 0x00, 0x01),
+        Event::W => write_effect(d, e.a, e.b as u8),
+        Event::R => read_effect(d, e.a),
+        Event::P => pins_effect(d, e.a as u8, e.b as u8, e.c as u8),
+        Event::T => clocks_effect(d, e.a),
+        Event::K => acknowledge_effect(d),
         _ => iei_effect(d, e.a),
     }
 }

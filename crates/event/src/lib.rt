@@ -7,13 +7,12 @@ ghost use Rattle.std.specs.Prelude.{◌≡◌};
 ghost use Rattle.rules.specs.Events.{relit, unsound_answer, outcome_of, event_of};
 ghost use Rattle.event.specs.Known.{known_of};
 
-use rules::{Answer, Device, Effect, Event, Outcome, Refusal};
+use rules::{Answer, Device, Effect, Event, Outcome, Refusal, Report};
 
 // The answer to a record that is not sound.
 fn unsound(d: Device) -> Outcome<Device>
     ensures { result ≡ record { device = d; answer = unsound_answer } }
 {
-    let none = effects::no_report();
     Outcome {
         device: d,
         answer: Answer {
@@ -24,7 +23,7 @@ fn unsound(d: Device) -> Outcome<Device>
             c: 0,
             int: false,
             ieo: false,
-            report: none,
+            report: Report::default(),
         },
     }
 }
@@ -35,18 +34,17 @@ fn outcome(code: u8, f: Effect) -> Outcome<Device>
     ensures { result ≡ outcome_of code (relit f) }
 {
     let d = interrupts::relined(f.device);
-    let report = f.report;
     Outcome {
         device: d,
         answer: Answer {
-            code: code,
+            code,
             value: f.value,
             a: levels::pins_at(d, 0),
             b: levels::pins_at(d, 1),
             c: levels::pins_at(d, 2),
             int: d.lines.int,
             ieo: d.lines.ieo,
-            report: report,
+            report: f.report,
         },
     }
 }

@@ -24,20 +24,13 @@ fn controls(e: Event) -> bool
 fn register_of(z: Z8536, a: u32) -> u32
     ensures { result ≡ register_of z a }
 {
-    let d = z.core;
-    if a == 0 {
-        return 0x0F;
+    match a {
+        0 => 0x0F,
+        1 => 0x0E,
+        2 => 0x0D,
+        _ if z.core.reset() => 0x00,
+        _ => z.pointer as u32,
     }
-    if a == 1 {
-        return 0x0E;
-    }
-    if a == 2 {
-        return 0x0D;
-    }
-    if d.reset() {
-        return 0x00;
-    }
-    z.pointer as u32
 }
 
 // The Z8036 event at that register.
@@ -59,8 +52,7 @@ pub(crate) fn at_register(z: Z8536, e: Event) -> Event
 pub(crate) fn points(z: Z8536, e: Event) -> bool
     ensures { result ≡ points z e }
 {
-    let d = z.core;
-    (e.kind == Event::W) & (e.a == CONTROL) & !z.pointed & !d.reset()
+    (e.kind == Event::W) & (e.a == CONTROL) & !z.pointed & !z.core.reset()
 }
 
 // Whether an access with this code ends the pointer state.
@@ -68,7 +60,7 @@ pub(crate) fn points(z: Z8536, e: Event) -> bool
 fn ends(e: Event, code: u8) -> bool
     ensures { result ≡ ends e code }
 {
-    controls(e) & ((code == 0) | (code == 3) | (code == 4) | (code == 10) | (code == 11))
+    controls(e) & matches!(code, 0 | 3 | 4 | 10 | 11)
 }
 
 // The record after what came of an event in the core.
@@ -84,11 +76,10 @@ pub(crate) fn after_core(z: Z8536, e: Event, o: Outcome<Device>) -> Z8536
             pointed: false,
         };
     }
-    let ended = ends(e, o.answer.code);
     Z8536 {
         core: d,
         pointer: z.pointer,
-        pointed: z.pointed & !ended,
+        pointed: z.pointed & !ends(e, o.answer.code),
     }
 }
 
@@ -103,6 +94,5 @@ pub(crate) fn has_no_address(e: Event) -> bool
 pub(crate) fn has_no_pointer(e: Event) -> bool
     ensures { result ≡ no_pointer e }
 {
-    let p = (e.b % 64) as usize;
-    Device::REGISTERS <= p
+    Device::REGISTERS <= (e.b % 64) as usize
 }

@@ -4,38 +4,28 @@
 mod accesses;
 
 ghost use Rattle.std.specs.Prelude.{◌≡◌};
-ghost use Rattle.rules.specs.Report.{no_report};
 ghost use Rattle.rules.specs.Events.{unsound_answer};
 ghost use Rattle.z8536.specs.Z8536.{stands, pointing, accessed, event_z8536};
 
-use rules::{Answer, Event, Outcome, Report};
+use rules::{Answer, Event, Outcome, Refusal, Report};
 use z8536::Z8536;
 
-fn no_report() -> Report
-    ensures { result ≡ no_report }
-{
-    Report {
-        terminals: [0; 3],
-        lost: [0; 3],
-    }
-}
-
 // The answer to a record that is not sound.
+#[tactic(auto, unfolding(rules::specs::Refusals::number_of))]
 fn unsound(z: Z8536) -> Outcome<Z8536>
     ensures { result ≡ record { device = z; answer = unsound_answer } }
 {
-    let none = no_report();
     Outcome {
         device: z,
         answer: Answer {
-            code: 9,
+            code: Refusal::Unsound.number(),
             value: 0,
             a: 0,
             b: 0,
             c: 0,
             int: false,
             ieo: false,
-            report: none,
+            report: Report::default(),
         },
     }
 }
@@ -46,40 +36,40 @@ fn stands(code: u8, z: Z8536) -> Outcome<Z8536>
     ensures { result ≡ stands code z }
 {
     let d = z.core;
-    let none = no_report();
     Outcome {
         device: z,
         answer: Answer {
-            code: code,
+            code,
             value: 0,
             a: levels::pins_at(d, 0),
             b: levels::pins_at(d, 1),
             c: levels::pins_at(d, 2),
             int: d.lines.int,
             ieo: d.lines.ieo,
-            report: none,
+            report: Report::default(),
         },
     }
 }
 
 // A control write that sets the pointer.
-#[tactic(auto, unfolding(z8536::specs::Z8536::pointing))]
+#[tactic(auto, unfolding(z8536::specs::Z8536::pointing, rules::specs::Refusals::number_of))]
 fn point(z: Z8536, e: Event) -> Outcome<Z8536>
     ensures { result ≡ pointing z e }
 {
     if 255 < e.b {
-        return stands(5, z);
+        return stands(Refusal::TooLarge.number(), z);
     }
     if accesses::has_no_pointer(e) {
-        return stands(2, z);
+        return stands(Refusal::NoRegister.number(), z);
     }
-    let p = (e.b % 64) as u8;
-    let y = Z8536 {
-        pointer: p,
-        pointed: true,
-        ..z
-    };
-    stands(0, y)
+    stands(
+        0,
+        Z8536 {
+            pointer: (e.b % 64) as u8,
+            pointed: true,
+            ..z
+        },
+    )
 }
 
 // The Z8036 event at that register.
@@ -88,16 +78,14 @@ fn access(z: Z8536, e: Event) -> Outcome<Z8536>
     ensures { result ≡ accessed z e }
 {
     let o = event::event(z.core, accesses::at_register(z, e));
-    let a = o.answer;
-    let y = accesses::after_core(z, e, o);
     Outcome {
-        device: y,
-        answer: a,
+        device: accesses::after_core(z, e, o),
+        answer: o.answer,
     }
 }
 
 // Any record and any event, to an answer beside the record.
-#[tactic(auto, unfolding(z8536::specs::Z8536::event_z8536))]
+#[tactic(auto, unfolding(z8536::specs::Z8536::event_z8536, rules::specs::Refusals::number_of))]
 pub fn event(z: Z8536, e: Event) -> Outcome<Z8536>
     ensures { result ≡ event_z8536 z e }
 {
@@ -105,7 +93,7 @@ pub fn event(z: Z8536, e: Event) -> Outcome<Z8536>
         return unsound(z);
     }
     if accesses::has_no_address(e) {
-        return stands(2, z);
+        return stands(Refusal::NoRegister.number(), z);
     }
     if accesses::points(z, e) {
         return point(z, e);

@@ -16,10 +16,14 @@ fn port_command(d: Device, p: usize) -> u8
     requires { p < 2 }
     ensures { result ≡ port_command d p }
 {
-    let k = Source::of_port(p);
     let q = d.patterns[p];
     let t = d.transfers[p];
-    sources::port_command(d.sources[k], q, ports::ore(q, t), ports::irf(q, t))
+    sources::port_command(
+        d.sources[Source::of_port(p)],
+        q,
+        ports::ore(q, t),
+        ports::irf(q, t),
+    )
 }
 
 #[tactic(auto, unfolding(rules::specs::Access::counter_command))]
@@ -27,8 +31,7 @@ fn counter_command(d: Device, i: usize) -> u8
     requires { i < 3 }
     ensures { result ≡ counter_command d i }
 {
-    let k = Source::of_counter(i);
-    sources::counter_command(d.sources[k], d.counters[i])
+    sources::counter_command(d.sources[Source::of_counter(i)], d.counters[i])
 }
 
 // The count as it reads.
@@ -36,12 +39,10 @@ fn counter_command(d: Device, i: usize) -> u8
 fn show(c: Counter) -> u16
     ensures { result ≡ shown c }
 {
-    if c.rcc {
-        return c.frozen;
-    }
-    c.count
+    if c.rcc { c.frozen } else { c.count }
 }
 
+// Stays: a Kind carries plain numbers, so a place in range would be made again in every arm that calls one of the functions above.
 #[tactic(auto, unfolding(rules::specs::Access::read_of))]
 fn read_kind(d: Device, k: Kind) -> u8
     requires { place k < places k }
@@ -83,11 +84,9 @@ fn thaw(d: Device, i: usize) -> Device
     requires { i < 3 }
     ensures { result ≡ with_counter d i (thawed (counter_at d i)) }
 {
-    let mut c = d.counters[i];
-    c.rcc = false;
-    c.frozen = 0;
     let mut e = d;
-    e.counters[i] = c;
+    e.counters[i].rcc = false;
+    e.counters[i].frozen = 0;
     e
 }
 

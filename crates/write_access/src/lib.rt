@@ -4,7 +4,6 @@
 mod data;
 
 ghost use Rattle.std.specs.Prelude.{◌≡◌, ◌<◌};
-ghost use Rattle.rules.specs.Record.{vacant};
 ghost use Rattle.rules.specs.Registers.{kind_of};
 ghost use Rattle.rules.specs.Counters.{enabled_by};
 ghost use Rattle.rules.specs.Access.{master_written, kept_by, config_written, port_commanded, counter_commanded, data_written, written_of};
@@ -16,8 +15,7 @@ use rules::{Counter, Device, Kind, Source, Transfer};
 fn write_master(d: Device, b: u8) -> Device
     ensures { result ≡ master_written d b }
 {
-    let reset = b % 2 == 1;
-    if reset {
+    if b % 2 == 1 {
         return record::reset(d);
     }
     let mut e = d;
@@ -45,34 +43,20 @@ fn enable(v: bool, c: Counter) -> Counter
 fn keep(v: bool, t: Transfer) -> Transfer
     ensures { result ≡ kept_by v t }
 {
-    if v {
-        return t;
-    }
-    none_held()
-}
-
-fn none_held() -> Transfer
-    ensures { result ≡ vacant }
-{
-    Transfer {
-        front: 0,
-        behind: 0,
-        bytes: 0,
-        unfinished: false,
-        pair: false,
-    }
+    if v { t } else { Transfer::default() }
 }
 
 #[tactic(auto, unfolding(rules::specs::Access::config_written))]
 fn write_config(d: Device, b: u8) -> Device
     ensures { result ≡ config_written d b }
 {
-    let c1 = enable(levels::counter_on(b, 0), d.counters[0]);
-    let c2 = enable(levels::counter_on(b, 1), d.counters[1]);
-    let c3 = enable(levels::counter_on(b, 2), d.counters[2]);
     let mut e = d;
     e.config = b;
-    e.counters = [c1, c2, c3];
+    e.counters = [
+        enable(levels::counter_on(b, 0), d.counters[0]),
+        enable(levels::counter_on(b, 1), d.counters[1]),
+        enable(levels::counter_on(b, 2), d.counters[2]),
+    ];
     e.transfers = [
         keep(levels::port_on(b, 0), d.transfers[0]),
         keep(levels::port_on(b, 1), d.transfers[1]),
@@ -86,10 +70,9 @@ fn command_port(d: Device, p: usize, b: u8) -> Device
     ensures { result ≡ port_commanded d p b }
 {
     let k = Source::of_port(p);
-    let s = sources::command(d.sources[k], b / 32);
     let mut e = d;
     e.patterns[p].ioe = b % 2 == 1;
-    e.sources[k] = s;
+    e.sources[k] = sources::command(d.sources[k], b / 32);
     e.transfers[p].pair = d.transfers[p].pair & !((b / 32 == 1) | (b / 32 == 5));
     e
 }
@@ -100,11 +83,9 @@ fn command_counter(d: Device, i: usize, b: u8) -> Device
     ensures { result ≡ counter_commanded d i b }
 {
     let k = Source::of_counter(i);
-    let s = sources::command(d.sources[k], b / 32);
-    let c = counters::command(levels::counter_on(d.config, i), b, d.counters[i]);
     let mut e = d;
-    e.counters[i] = c;
-    e.sources[k] = s;
+    e.counters[i] = counters::command(levels::counter_on(d.config, i), b, d.counters[i]);
+    e.sources[k] = sources::command(d.sources[k], b / 32);
     e
 }
 
@@ -116,12 +97,12 @@ fn write_data(d: Device, p: usize, b: u8) -> Device
     if levels::outputs_at(d, p) & levels::port_enabled(d, p) {
         return moves::stored(d, p, b);
     }
-    let q = data::put(d.ports[p], levels::direction_at(d, p), p, b);
     let mut e = d;
-    e.ports[p] = q;
+    e.ports[p] = data::put(d.ports[p], levels::direction_at(d, p), p, b);
     e
 }
 
+// Stays: a Kind carries plain numbers, so a place in range would be made again in every arm that calls one of the functions above.
 // The table of the registers, an arm for each. It writes one record in place: arms that each return one took twice the instructions.
 #[tactic(auto, unfolding(rules::specs::Access::written_of))]
 fn write_kind(d: Device, k: Kind, b: u8) -> Device
@@ -147,11 +128,11 @@ fn write_kind(d: Device, k: Kind, b: u8) -> Device
         Kind::CurrentVector => {}
         Kind::PortMode(p) => {
             e.patterns[p].mode = b;
-            e.transfers[p] = none_held();
+            e.transfers[p] = Transfer::default();
         }
         Kind::Handshake(p) => {
             e.patterns[p].handshake = b;
-            e.transfers[p] = none_held();
+            e.transfers[p] = Transfer::default();
         }
         Kind::PatternPolarity(p) => e.patterns[p].polarity = b,
         Kind::Transition(p) => e.patterns[p].transition = b,
