@@ -3,8 +3,9 @@
 -- (`clauses`), so a promise that is loosened loses its theorem.
 -- `a.0`, `a.1.0`, .. are the parameters in their order; `x.0`, `x.1.0`, .. what the lent ones hold at exit.
 -- Assumes nothing.
-use Prim.Native.Nat.{◌+◌, ◌*◌, ◌%◌, ℕ}
-use contract.Monad.{fact_mono}
+use Prim.Native.Nat.{◌+◌, ◌*◌, ◌%◌, ◌<◌, ℕ}
+use base.Logic.{fst∗}
+use contract.Monad.{fact, fact_mono}
 use seplogic.Ra.Ura.{Ura}
 use mathlib.Core.List.{List, []}
 use mathlib.Core.Path.{refl}
@@ -53,6 +54,7 @@ use Rattle.rules.specs.Moves.{given_at, moves_of, stored_at}
 use Rattle.rules.specs.Patterns.{on_at, hit_at, match_of, event_by, hides_by, highest_match}
 use Rattle.rules.specs.PortData.{catches_at, data_at, direction_at, effective_at, path_at, pins_at, seen_at}
 use Rattle.rules.specs.Record.{fresh_of, image_len, of_counter, of_port, pattern_at, register_count, reset_of}
+use Rattle.rules.specs.Refusals.{number_of, code_in}
 use Rattle.rules.specs.Registers.{commanded, counter_command_of, counter_on, kind_of, port_command_of, port_enabled, port_on, reset}
 use Rattle.rules.specs.Sound.{same_counter, same_of, same_source, sound_of}
 use Rattle.rules.specs.Step.{catchers, lines_at, ran_of, step_of}
@@ -77,13 +79,14 @@ use Rattle.rules.specs.declared.Answer.{Answer}
 use Rattle.rules.specs.declared.Device.{Device}
 use Rattle.rules.specs.declared.refusal.Refusal.{Refusal}
 use Rattle.rules.specs.declared.Lines.{Lines}
-use Rattle.rules.specs.declared.refusal.Refusal.{Refusal}
-use Rattle.std.specs.Prelude.{Result}
+use Rattle.std.specs.Prelude.{Result, Some, None, if◌then◌else◌}
 use Rattle.rows.specs.declared.RowAnswer.{RowAnswer}
 use Rattle.session.specs.declared.Fed.{Fed}
 use Rattle.session.specs.declared.Told.{Told}
 use Rattle.rules.specs.contracts.Source.of_port as rules·Source-of-port
 use Rattle.rules.specs.contracts.Source.of_counter as rules·Source-of-counter
+use Rattle.rules.specs.contracts.refusal.Refusal.number as rules·Refusal-number
+use Rattle.rules.specs.contracts.refusal.code as rules·code
 use Rattle.rules.specs.contracts.Device.fresh as rules·Device-fresh
 use Rattle.rules.specs.contracts.Device.image_len as rules·Device-image-len
 use Rattle.rules.specs.contracts.Device.registers as rules·Device-registers
@@ -183,6 +186,8 @@ use Rattle.basics.specs.contracts.with_byte as basics·with-byte
 use Rattle.basics.specs.contracts.byte_at as basics·byte-at
 use Rattle.basics.specs.contracts.word_at as basics·word-at
 use Rattle.basics.specs.contracts.lay as basics·lay
+use Rattle.basics.specs.contracts.place.Place.of as basics·Place-of
+use Rattle.basics.specs.contracts.place.Place.index as basics·Place-index
 use Rattle.counters.specs.contracts.output as counters·output
 use Rattle.counters.specs.contracts.turn as counters·turn
 use Rattle.counters.specs.contracts.rests as counters·rests
@@ -268,9 +273,10 @@ use Rattle.texts.specs.contracts.Text.new as texts·Text-new
 use Rattle.texts.specs.contracts.Text.push as texts·Text-push
 use Rattle.write_access.specs.contracts.write as write-access·write
 use mir.Syntax.{Dict}
+use denote.Param.{value_of}
 use denote.RattleType.{RattleType}
 use Rattle.std.specs.declared.clone.Clone.{Ghosts}
-use Rattle.std.specs.Prelude.{Result}
+use Rattle.std.specs.Prelude.{Result, Some, None, if◌then◌else◌}
 use Rattle.promises.proofs.Verdicts.{verdict, told}
 use Rattle.promises.proofs.Promise.{OneAnswer, one_answer, OneResult, one-result, two-clauses}
 use Rattle.promises.proofs.Refused.{told_by, told-by}
@@ -282,6 +288,14 @@ module _ {M : Type 1} (𝓤 : Ura M) where
 
   pub rules-Source-of-counter : OneResult 𝓤 rules·Source-of-counter.ended rules·Source-of-counter.clauses
   rules-Source-of-counter = one-result 𝓤 rules·Source-of-counter.ended rules·Source-of-counter.clauses (λ κs a. of_counter (a.0 % 3)) refl
+
+  pub rules-Refusal-number : OneResult 𝓤 rules·Refusal-number.ended rules·Refusal-number.clauses
+  rules-Refusal-number =
+      one_answer 𝓤 rules·Refusal-number.ended rules·Refusal-number.clauses (λ κs. ℕ) (λ κs r x. r)
+      (λ κs a. number_of a.0) (λ 𝓛 at_mem run κs a g r x. fst∗ 𝓤 (fact 𝓤 (r ≡ number_of a.0)) (fact 𝓤 (0 < r)))
+
+  pub rules-code : OneResult 𝓤 rules·code.ended rules·code.clauses
+  rules-code = one-result 𝓤 rules·code.ended rules·code.clauses (λ κs a. code_in a.0) refl
 
   pub rules-Device-fresh : OneResult 𝓤 rules·Device-fresh.ended rules·Device-fresh.clauses
   rules-Device-fresh = one-result 𝓤 rules·Device-fresh.ended rules·Device-fresh.clauses (λ κs a. fresh_of) refl
@@ -645,6 +659,17 @@ module _ {M : Type 1} (𝓤 : Ura M) where
   measure-event = one-result 𝓤 measure·event.ended measure·event.clauses (λ κs a. measured_of a.0 a.1.0 a.1.1.0) refl
 
   -- the calls between the crates
+  -- of any N, the number of places
+  pub basics-Place-of : (N : RattleType) → OneResult 𝓤 (basics·Place-of.ended N) (basics·Place-of.clauses N)
+  basics-Place-of N =
+      one-result 𝓤 (basics·Place-of.ended N) (basics·Place-of.clauses N)
+      (λ κs a. if ltb a.0 (value_of (basics·Place-of.N-row N)) then Some a.0 else None) refl
+
+  pub basics-Place-index : (N : RattleType) → OneResult 𝓤 (basics·Place-index.ended N) (basics·Place-index.clauses N)
+  basics-Place-index N =
+      one_answer 𝓤 (basics·Place-index.ended N) (basics·Place-index.clauses N) (λ κs. ℕ) (λ κs r x. r)
+      (λ κs a. a.0.now) (λ 𝓛 at_mem run κs a g r x. fst∗ 𝓤 (fact 𝓤 (r ≡ a.0.now)) (fact 𝓤 (r < value_of (basics·Place-index.N-row N))))
+
   pub basics-weight : OneResult 𝓤 basics·weight.ended basics·weight.clauses
   basics-weight =
       one_answer 𝓤 basics·weight.ended basics·weight.clauses (λ κs. ℕ) (λ κs r x. r)

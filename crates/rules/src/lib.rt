@@ -48,6 +48,7 @@ impl Source {
 }
 
 // One of the three counter/timers. `frozen` is what 10H-15H read while RCC is 1; `pulse` stands from a terminal on.
+// Stays: `rcc` is a flag beside `frozen`, since the record is paper 01's: `sound_counter` and the image's bodies name both.
 #[derive(Clone, Copy, Default, PartialEq, Eq)]
 pub struct Counter {
     pub mode: u8,
@@ -118,6 +119,7 @@ impl Lines {
 
 // The device. `version` is 1 or 2, of its pulse and its image; `vectors` are A, B, CT; `ports` A, B, C; `patterns` and `transfers` A, B; `counters` 1, 2, 3;
 // `sources` stand in their order of priority: CT3, A, CT2, B, CT1.
+// Stays: `version` is a number, since a record may hold any byte there, and `sound_version` answers for those that are neither 1 nor 2.
 #[derive(Clone, Copy, PartialEq, Eq)]
 pub struct Device {
     pub version: u8,
@@ -191,6 +193,7 @@ impl Device {
 }
 
 // A kind and three numbers; a kind ignores those that it does not use.
+// Stays: `kind` is a number, since the C interface hands it over as one, and `code_of` answers 1 to any above 6.
 #[derive(Clone, Copy)]
 pub struct Event {
     pub kind: u32,
@@ -217,6 +220,7 @@ impl Event {
 }
 
 // What an answer reports of its clocks: the terminal counts of counters 1, 2, 3, and how many of them were lost.
+// Stays: two lists side by side, since paper 01 reports them so, and `report_text` and the answer in C have all terminals first.
 #[derive(Clone, Copy, Default, PartialEq, Eq)]
 pub struct Report {
     pub terminals: [u32; 3],
@@ -224,6 +228,7 @@ pub struct Report {
 }
 
 // The answer to an event.
+// Stays: `code` is a number, since paper 01 says that a code answers, and C gets it as a byte.
 #[derive(Clone, Copy)]
 pub struct Answer {
     pub code: u8,
