@@ -30,7 +30,7 @@ fn is_too_large(e: Event) -> bool
 }
 
 // Why an event is refused, in the order of the refusals.
-#[tactic(auto, unfolding(ctc_rules::specs::Events::code_ctc, rules::specs::Events::unknown, rules::specs::Refusals::number_of, rules::specs::Refusals::code_in))]
+#[tactic(auto, unfolding(ctc_rules::specs::Events::code_ctc, rules::specs::Events::unknown, rules::specs::Refusals::refusal_number, rules::specs::Refusals::code_in))]
 fn refused(d: Ctc, e: Event) -> Result<(), Refusal>
     ensures { code_in result ≡ code_ctc d e }
 {
@@ -53,7 +53,7 @@ fn refused(d: Ctc, e: Event) -> Result<(), Refusal>
 }
 
 // The answer to a record that is not sound.
-#[tactic(auto, unfolding(rules::specs::Refusals::number_of))]
+#[tactic(auto, unfolding(rules::specs::Refusals::refusal_number))]
 fn unsound(device: Ctc) -> Outcome<Ctc, CtcAnswer>
     ensures { result ≡ unsound_ctc device }
 {
@@ -87,7 +87,7 @@ fn outcome(code: u8, f: CtcEffect) -> Outcome<Ctc, CtcAnswer>
 }
 
 // Any record and any event, to an answer beside the record.
-#[tactic(auto, unfolding(ctc_rules::specs::Events::event_ctc, rules::specs::Refusals::number_of, rules::specs::Refusals::code_in))]
+#[tactic(auto, unfolding(ctc_rules::specs::Events::event_ctc, rules::specs::Refusals::refusal_number, rules::specs::Refusals::code_in))]
 pub fn event(d: Ctc, e: Event) -> Outcome<Ctc, CtcAnswer>
     ensures { result ≡ event_ctc d e }
 {

@@ -20,7 +20,7 @@ pub(crate) const TABLE: [u8; 10] = [0x11, 2, 1, 0, 10, 28, 2, 0, 38, 3];
 
 // Saves a record into the first 41 bytes of a buffer. Codes: 9 for a record that is not sound, 7 for a buffer that is shorter, else 0.
 // A refused save leaves the buffer as it was.
-#[tactic(auto, unfolding(rules::specs::Refusals::code_in, rules::specs::Refusals::number_of))]
+#[tactic(auto, unfolding(rules::specs::Refusals::code_in, rules::specs::Refusals::refusal_number))]
 pub fn save(d: Ctc, buf: &mut [u8]) -> Result<(), Refusal>
     ensures { (code_in result ≡ save_code_ctc d (length buf.old)) × (buf.new ≡ saved_ctc d buf.old) }
 {
@@ -35,7 +35,7 @@ pub fn save(d: Ctc, buf: &mut [u8]) -> Result<(), Refusal>
 }
 
 // The record of two bodies, if their unused bits are 0 and it is sound.
-#[tactic(auto, unfolding(crate::specs::Image::accepted_ctc, image::specs::Image::restored_from, rules::specs::Refusals::number_of))]
+#[tactic(auto, unfolding(crate::specs::Image::accepted_ctc, image::specs::Image::restored_from, rules::specs::Refusals::refusal_number))]
 fn accept(channels: &[u8], lines: &[u8]) -> Result<Ctc, Refusal>
     ensures { restored_from result fresh_ctc ≡ accepted_ctc (clear_ctc channels.now lines.now) (told_ctc channels.now lines.now) }
 {
@@ -46,7 +46,7 @@ fn accept(channels: &[u8], lines: &[u8]) -> Result<Ctc, Refusal>
     Ok(d)
 }
 
-#[tactic(auto, unfolding(crate::specs::Image::restored_ctc, image::specs::Image::restored_from, rules::specs::Refusals::number_of))]
+#[tactic(auto, unfolding(crate::specs::Image::restored_ctc, image::specs::Image::restored_from, rules::specs::Refusals::refusal_number))]
 fn read(s: &[u8]) -> Result<Ctc, Refusal>
     ensures { restored_from result fresh_ctc ≡ restored_ctc s.now }
 {

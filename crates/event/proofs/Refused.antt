@@ -11,7 +11,7 @@ use Rattle.rules.specs.Events.{code_of, effect, relit}
 use Rattle.rules.specs.contracts.refusal.Refusal.{the_type}
 use Rattle.rules.specs.declared.refusal.Refusal.{Refusal}
 use Rattle.rules.specs.declared.refusal.Refusal.TheVariants.{Unknown, NoRegister, ReadOnly, Later, TooLarge, NoRequester, Length, Contents, Unsound, NoRoom, NoByte, TooLong, NoDevice}
-use Rattle.rules.specs.Refusals.{number_of}
+use Rattle.rules.specs.Refusals.{refusal_number}
 use Rattle.theorems.proofs.Codes.{test-9}
 use Rattle.theorems.proofs.Stored.{sound-relined}
 
@@ -23,8 +23,8 @@ pub as_it_was : (d : Device) (e : Event) → eqb (code_of d e) 9 ≡ false → r
 unfolding relit
 as_it_was d e h = ap (λ (f : Device). effect f 0) (sound-relined d (not-false (sound_of d) (sym (test-9 d e) ∙ h)))
 
-pub is-nine : (r : Refusal) → sameb the_type r Unsound ≡ eqb (number_of r) 9
-unfolding number_of
+pub is-nine : (r : Refusal) → sameb the_type r Unsound ≡ eqb (refusal_number r) 9
+unfolding refusal_number
 is-nine Unknown = refl
 is-nine NoRegister = refl
 is-nine ReadOnly = refl

@@ -11,7 +11,7 @@ use rules::{Answer, Event, Outcome, Refusal, Report};
 use z8536::Z8536;
 
 // The answer to a record that is not sound.
-#[tactic(auto, unfolding(rules::specs::Refusals::number_of))]
+#[tactic(auto, unfolding(rules::specs::Refusals::refusal_number))]
 fn unsound(z: Z8536) -> Outcome<Z8536>
     ensures { result ≡ record { device = z; answer = unsound_answer } }
 {
@@ -52,7 +52,7 @@ fn stands(code: u8, z: Z8536) -> Outcome<Z8536>
 }
 
 // A control write that sets the pointer.
-#[tactic(auto, unfolding(z8536::specs::Z8536::pointing, rules::specs::Refusals::number_of))]
+#[tactic(auto, unfolding(z8536::specs::Z8536::pointing, rules::specs::Refusals::refusal_number))]
 fn point(z: Z8536, e: Event) -> Outcome<Z8536>
     ensures { result ≡ pointing z e }
 {
@@ -85,7 +85,7 @@ fn access(z: Z8536, e: Event) -> Outcome<Z8536>
 }
 
 // Any record and any event, to an answer beside the record.
-#[tactic(auto, unfolding(z8536::specs::Z8536::event_z8536, rules::specs::Refusals::number_of))]
+#[tactic(auto, unfolding(z8536::specs::Z8536::event_z8536, rules::specs::Refusals::refusal_number))]
 pub fn event(z: Z8536, e: Event) -> Outcome<Z8536>
     ensures { result ≡ event_z8536 z e }
 {

@@ -283,7 +283,7 @@ impl Hosted for Ctc {
 // The device of a state, unless the call is refused: with the code of the state's restore, then with 7 for an answer buffer that is
 // too short.
 // Stays: the refusal is a number, since `Restored.code` is one and C gets it.
-#[tactic(auto, unfolding(crate::specs::Calls::refusal_of, crate::specs::Calls::opened_by, rules::specs::Refusals::number_of))]
+#[tactic(auto, unfolding(crate::specs::Calls::refusal_of, crate::specs::Calls::opened_by, rules::specs::Refusals::refusal_number))]
 pub(crate) fn opened<D: Hosted>(state: &[u8], room: usize, needed: usize) -> Result<D, u8>
     ensures { result ≡ opened_by (D.restored state.now) room needed }
 {
@@ -308,7 +308,7 @@ pub(crate) fn settle<D: Hosted>(o: Outcome<D, D::Answer>, state: &mut [u8], answ
 }
 
 // The fresh device's image into a buffer of exactly its length. Codes: 7 for another length, with nothing written, else 0.
-#[tactic(auto, unfolding(crate::specs::Calls::fresh_code, crate::specs::Calls::fresh_state, rules::specs::Refusals::number_of))]
+#[tactic(auto, unfolding(crate::specs::Calls::fresh_code, crate::specs::Calls::fresh_state, rules::specs::Refusals::refusal_number))]
 pub(crate) fn fresh<D: Hosted>(state: &mut [u8]) -> u8
     ensures { (result ≡ fresh_code D.fresh_image state.old) × (state.new ≡ fresh_state D.fresh_image state.old) }
 {

@@ -13,7 +13,7 @@ use Rattle.bodies.specs.Taken.{device_in, clear_in}
 use Rattle.rules.specs.declared.Device.{Device}
 use Rattle.rules.specs.declared.refusal.Refusal.{Refusal}
 use Rattle.rules.specs.declared.refusal.Refusal.TheVariants.{Unknown, NoRegister, ReadOnly, Later, TooLarge, NoRequester, Length, Contents, Unsound, NoRoom, NoByte, TooLong, NoDevice}
-use Rattle.rules.specs.Refusals.{number_of}
+use Rattle.rules.specs.Refusals.{refusal_number}
 use Rattle.rules.specs.Record.{fresh_of}
 use Rattle.z8536.specs.Z8536.{fresh_z8536}
 use Rattle.image.specs.declared.Restored.{Restored}
@@ -58,7 +58,7 @@ module _ (s : List ℕ) (h : (get_or s 0 0 == 3) ≡ true) where
 
   pub core-refused : (r : Refusal) → restored_from (Err r) fresh_of ≡ restored_by 2 (contents_of layout3) 2 s
       → restored_from (Err r) fresh_z8536 ≡ restored_z8536 s
-  unfolding restored_from with_pointer number_of
+  unfolding restored_from with_pointer refusal_number
   core-refused r k = passed r ∙ ap (λ (t : Restored Device). with_pointer t (body_in layout3 6 s)) (k ∙ by-3 s) ∙ begins-3
     where
       passed : (r : Refusal) → restored_from (Err r) fresh_z8536 ≡ with_pointer (restored_from (Err r) fresh_of) (body_in layout3 6 s)

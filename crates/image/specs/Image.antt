@@ -3,7 +3,7 @@
 use Rattle.std.specs.Prelude.{ℕ, ◌+◌, Result, Ok, Err, Bool, true, false, not, ◌&&◌, List, [], ◌∷◌, ◌++◌, ltb, length, take, drop, if◌then◌else◌, ◌==◌}
 use Rattle.rules.specs.declared.Device.{Device}
 use Rattle.rules.specs.declared.refusal.Refusal.{Refusal}
-use Rattle.rules.specs.Refusals.{number_of}
+use Rattle.rules.specs.Refusals.{refusal_number}
 use Rattle.rules.specs.Record.{fresh_of}
 use Rattle.rules.specs.Sound.{sound_of}
 use Rattle.bodies.specs.Layout.{Layout, layout_of, layout_in, contents_len, length_of, contents_of, part}
@@ -33,7 +33,7 @@ saved_of d e = if save_code d (length e) == 0 then image_of d ++ drop (length_of
 -- what is answered where a device was read, and where its reading was refused: then with the fresh one
 unfoldable pub restored_from : {D : Type 0} → Result D Refusal → D → Restored D
 restored_from (Ok d) fresh = record { code = 0; device = d }
-restored_from (Err r) fresh = record { code = number_of r; device = fresh }
+restored_from (Err r) fresh = record { code = refusal_number r; device = fresh }
 
 abbrev pub refused : ℕ → Restored Device
 refused c = record { code = c; device = fresh_of }

@@ -78,7 +78,7 @@ pub(crate) fn write_by(contents: &[u8], d: Device, buf: &mut [u8])
 
 // Saves a record into the first bytes of a buffer, 84 of version 1, 96 of version 2. Codes: 9 for a record that is not sound, 7
 // for a buffer that is shorter, else 0. A refused save leaves the buffer as it was.
-#[tactic(auto, unfolding(rules::specs::Refusals::code_in, rules::specs::Refusals::number_of))]
+#[tactic(auto, unfolding(rules::specs::Refusals::code_in, rules::specs::Refusals::refusal_number))]
 pub fn save(d: Device, buf: &mut [u8]) -> Result<(), Refusal>
     ensures { (code_in result ≡ save_code d (length buf.old)) × (buf.new ≡ saved_of d buf.old) }
 {
@@ -97,7 +97,7 @@ pub fn save(d: Device, buf: &mut [u8]) -> Result<(), Refusal>
 }
 
 // The record of five bodies, if their unused bits are 0 and it is sound.
-#[tactic(auto, unfolding(crate::specs::Image::restored_from, crate::specs::Image::accepted_of, rules::specs::Refusals::number_of))]
+#[tactic(auto, unfolding(crate::specs::Image::restored_from, crate::specs::Image::accepted_of, rules::specs::Refusals::refusal_number))]
 fn accept(version: u8, parts: &Parts) -> Result<Device, Refusal>
     ensures { restored_from result fresh_of ≡ accepted_of
         (unused_clear parts.now.registers.now parts.now.counts.now parts.now.pins.now parts.now.lines.now parts.now.transfers.now
@@ -115,7 +115,7 @@ fn accept(version: u8, parts: &Parts) -> Result<Device, Refusal>
 }
 
 // An image with these contents, of a record of a version; behind its bodies stand `more` bytes.
-#[tactic(auto, unfolding(crate::specs::Image::restored_from, crate::specs::Image::restored_by, rules::specs::Refusals::number_of))]
+#[tactic(auto, unfolding(crate::specs::Image::restored_from, crate::specs::Image::restored_by, rules::specs::Refusals::refusal_number))]
 pub(crate) fn read_by(version: u8, contents: &[u8], more: u8, s: &[u8]) -> Result<Device, Refusal>
     ensures { restored_from result fresh_of ≡ restored_by version contents.now more s.now }
 {

@@ -1,6 +1,6 @@
 // The image of a Z8536: its core's, with a table of its own and a sixth body behind the others.
 ghost use Rattle.std.specs.Prelude.{◌≡◌, ◌++◌, ◌≤◌, length, drop};
-ghost use Rattle.rules.specs.Refusals.{number_of, code_in};
+ghost use Rattle.rules.specs.Refusals.{refusal_number, code_in};
 ghost use Rattle.z8536.specs.Z8536.{fresh_z8536};
 ghost use Rattle.bodies.specs.Layout.{layout3, length_of};
 ghost use Rattle.image.specs.Image.{restored_from};
@@ -22,7 +22,7 @@ fn write_z8536(z: Z8536, buf: &mut [u8])
 
 // Saves a Z8536 into the first 102 bytes of a buffer. Codes as for the Z8036: 9, then 7, else 0. A refused save leaves the buffer as
 // it was.
-#[tactic(auto, unfolding(rules::specs::Refusals::code_in, rules::specs::Refusals::number_of))]
+#[tactic(auto, unfolding(rules::specs::Refusals::code_in, rules::specs::Refusals::refusal_number))]
 pub fn save_z8536(z: Z8536, buf: &mut [u8]) -> Result<(), Refusal>
     ensures { (code_in result ≡ save_code_z8536 z (length buf.old)) × (buf.new ≡ saved_z8536 z buf.old) }
 {
@@ -37,9 +37,9 @@ pub fn save_z8536(z: Z8536, buf: &mut [u8]) -> Result<(), Refusal>
 }
 
 // What refuses an image with another first byte.
-#[tactic(auto, unfolding(crate::specs::Pointed::other_code, rules::specs::Refusals::number_of))]
+#[tactic(auto, unfolding(crate::specs::Pointed::other_code, rules::specs::Refusals::refusal_number))]
 fn other(s: &[u8]) -> Refusal
-    ensures { number_of result ≡ other_code s.now }
+    ensures { refusal_number result ≡ other_code s.now }
 {
     if s.len() < contents::OLD.len() {
         return Refusal::Length;
@@ -48,7 +48,7 @@ fn other(s: &[u8]) -> Refusal
 }
 
 // A core that was read, with the sixth body beside it.
-#[tactic(auto, unfolding(crate::specs::Pointed::with_pointer, crate::specs::Image::restored_from, rules::specs::Refusals::number_of))]
+#[tactic(auto, unfolding(crate::specs::Pointed::with_pointer, crate::specs::Image::restored_from, rules::specs::Refusals::refusal_number))]
 fn with_pointer(core: Device, b: &[u8]) -> Result<Z8536, Refusal>
     ensures { restored_from result fresh_z8536 ≡ with_pointer (record { code = 0; device = core }) b.now }
 {

@@ -73,7 +73,7 @@ fn is_past(m: Measure, e: Event) -> bool
 }
 
 // Such a T: the lines as they stand are those of a T of no clocks.
-#[tactic(auto, unfolding(rules::specs::Refusals::number_of))]
+#[tactic(auto, unfolding(rules::specs::Refusals::refusal_number))]
 fn too_long(measure: Measure, device: Device, e: Event) -> Measured
     requires { past measure e ≡ true }
     ensures { result ≡ measured_of measure device e }

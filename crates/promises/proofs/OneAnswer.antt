@@ -54,7 +54,7 @@ use Rattle.rules.specs.Moves.{given_at, moves_of, stored_at}
 use Rattle.rules.specs.Patterns.{on_at, hit_at, match_of, event_by, hides_by, highest_match}
 use Rattle.rules.specs.PortData.{catches_at, data_at, direction_at, effective_at, path_at, pins_at, seen_at}
 use Rattle.rules.specs.Record.{fresh_of, image_len, of_counter, of_port, pattern_at, register_count, reset_of}
-use Rattle.rules.specs.Refusals.{number_of, code_in}
+use Rattle.rules.specs.Refusals.{refusal_number, code_in}
 use Rattle.rules.specs.Registers.{commanded, counter_command_of, counter_on, kind_of, port_command_of, port_enabled, port_on, reset}
 use Rattle.rules.specs.Sound.{same_counter, same_of, same_source, sound_of}
 use Rattle.rules.specs.Step.{catchers, lines_at, ran_of, step_of}
@@ -292,7 +292,7 @@ module _ {M : Type 1} (𝓤 : Ura M) where
   pub rules-Refusal-number : OneResult 𝓤 rules·Refusal-number.ended rules·Refusal-number.clauses
   rules-Refusal-number =
       one_answer 𝓤 rules·Refusal-number.ended rules·Refusal-number.clauses (λ κs. ℕ) (λ κs r x. r)
-      (λ κs a. number_of a.0) (λ 𝓛 at_mem run κs a g r x. fst∗ 𝓤 (fact 𝓤 (r ≡ number_of a.0)) (fact 𝓤 (0 < r)))
+      (λ κs a. refusal_number a.0) (λ 𝓛 at_mem run κs a g r x. fst∗ 𝓤 (fact 𝓤 (r ≡ refusal_number a.0)) (fact 𝓤 (0 < r)))
 
   pub rules-code : OneResult 𝓤 rules·code.ended rules·code.clauses
   rules-code = one-result 𝓤 rules·code.ended rules·code.clauses (λ κs a. code_in a.0) refl

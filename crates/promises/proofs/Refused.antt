@@ -5,7 +5,7 @@ use mathlib.Core.Path.{◌≡◌, refl, ap, ◌∙◌}
 use Rattle.std.specs.Prelude.{Result, Ok, Err, if◌then◌else◌, ◌==◌}
 use Rattle.rules.specs.declared.refusal.Refusal.{Refusal}
 use Rattle.rules.specs.declared.refusal.Refusal.TheVariants.{Unknown, NoRegister, ReadOnly, Later, TooLarge, NoRequester, Length, Contents, Unsound, NoRoom, NoByte, TooLong, NoDevice}
-use Rattle.rules.specs.Refusals.{number_of, code_in}
+use Rattle.rules.specs.Refusals.{refusal_number, code_in}
 
 unfoldable pub told_by : ℕ → Result Unit Refusal
 told_by n =
@@ -25,7 +25,7 @@ told_by n =
     Err NoDevice
 
 by-code : (r : Result Unit Refusal) → r ≡ told_by (code_in r)
-unfolding told_by code_in number_of
+unfolding told_by code_in refusal_number
 by-code (Ok tt) = refl
 by-code (Err Unknown) = refl
 by-code (Err NoRegister) = refl

@@ -4,7 +4,7 @@ use Rattle.std.specs.Prelude.{ℕ, Result, Ok, Err, if◌then◌else◌, ◌==�
 use mathlib.Core.Path.{◌≡◌, refl, sym, ap, ◌∙◌}
 use Rattle.rules.specs.declared.refusal.Refusal.{Refusal}
 use Rattle.rules.specs.declared.refusal.Refusal.TheVariants.{Unknown, NoRegister, ReadOnly, Later, TooLarge, NoRequester, Length, Contents, Unsound, NoRoom, NoByte, TooLong, NoDevice}
-use Rattle.rules.specs.Refusals.{number_of, code_in}
+use Rattle.rules.specs.Refusals.{refusal_number, code_in}
 
 -- the answer with a code
 abbrev pub verdict : ℕ → Result Unit Refusal
@@ -25,7 +25,7 @@ verdict n =
     Err NoDevice
 
 of-code : (r : Result Unit Refusal) → verdict (code_in r) ≡ r
-unfolding code_in number_of
+unfolding code_in refusal_number
 of-code (Ok tt) = refl
 of-code (Err Unknown) = refl
 of-code (Err NoRegister) = refl

@@ -84,7 +84,7 @@ fn has_no_room(d: Device, e: Event) -> bool
 }
 
 // "Order: 9, 1, 2, 5, reset hold, 3, 4, 6.", 11 after 3, 10 after 11: from 1 on, of a record that is known to be sound.
-#[tactic(auto, unfolding(crate::specs::Known::known_code, rules::specs::Refusals::code_in, rules::specs::Refusals::number_of))]
+#[tactic(auto, unfolding(crate::specs::Known::known_code, rules::specs::Refusals::code_in, rules::specs::Refusals::refusal_number))]
 pub fn admit_known(d: Device, e: Event) -> Result<(), Refusal>
     ensures { code_in result ≡ known_code d e }
 {
@@ -119,7 +119,7 @@ pub fn admit_known(d: Device, e: Event) -> Result<(), Refusal>
 }
 
 // And with the first.
-#[tactic(auto, unfolding(rules::specs::Events::code_of, crate::specs::Known::known_code, rules::specs::Refusals::code_in, rules::specs::Refusals::number_of))]
+#[tactic(auto, unfolding(rules::specs::Events::code_of, crate::specs::Known::known_code, rules::specs::Refusals::code_in, rules::specs::Refusals::refusal_number))]
 pub fn admit(d: Device, e: Event) -> Result<(), Refusal>
     ensures { code_in result ≡ code_of d e }
 {

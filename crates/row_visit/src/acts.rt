@@ -19,7 +19,7 @@ fn misfit(s: Pass) -> bool
 
 // The code of an event, after the pass that looked.
 // Stays: a number, as the code is that the pass has in its answer.
-#[tactic(auto, unfolding(crate::specs::Visits::verdict_of, rules::specs::Refusals::number_of))]
+#[tactic(auto, unfolding(crate::specs::Visits::verdict_of, rules::specs::Refusals::refusal_number))]
 fn verdict(s: Pass) -> u8
     ensures { result ≡ verdict_of s }
 {
@@ -36,7 +36,7 @@ fn verdict(s: Pass) -> u8
 }
 
 // The pass that acts, before the first device.
-#[tactic(auto, unfolding(crate::specs::Visits::acting_of, rules::specs::Refusals::number_of))]
+#[tactic(auto, unfolding(crate::specs::Visits::acting_of, rules::specs::Refusals::refusal_number))]
 pub fn acting(s: Pass) -> Pass
     ensures { result ≡ acting_of s }
 {

@@ -1,7 +1,7 @@
 // The refusals, each with its number.
 
 ghost use Rattle.std.specs.Prelude.{◌≡◌, ◌<◌};
-ghost use Rattle.rules.specs.Refusals.{number_of, code_in};
+ghost use Rattle.rules.specs.Refusals.{refusal_number, code_in};
 
 // Why a call does nothing, in the order of the numbers: 1 a kind above 6; 2 no register, or no channel; 3 a register that is only read;
 // 4 a setting left to later requests; 5 a number too large; 6 no requester; 7 a length; 8 the contents of an image; 9 a record that is not
@@ -25,9 +25,9 @@ pub enum Refusal {
 
 impl Refusal {
     // The code of an answer.
-    #[tactic(auto, unfolding(crate::specs::Refusals::number_of))]
+    #[tactic(auto, unfolding(crate::specs::Refusals::refusal_number))]
     pub fn number(self) -> u8
-        ensures value { result ≡ number_of self }
+        ensures value { result ≡ refusal_number self }
         ensures nonzero { 0 < result }
     {
         match self {

@@ -7,7 +7,7 @@ use mathlib.Core.List.{List, ◌++◌}
 use native.Mathlib.Omega.{arith}
 use lib.ListN.{length, drop}
 use borrow.Author.Tests.{not-true, not-false}
-use Rattle.rules.specs.Refusals.{number_of, code_in}
+use Rattle.rules.specs.Refusals.{refusal_number, code_in}
 use Rattle.rules.specs.declared.Device.{Device}
 use Rattle.rules.specs.Record.{image_len}
 use Rattle.rules.specs.Sound.{sound_of}
@@ -30,14 +30,14 @@ filled d e exit sound room written =
     (sym code, written ∙ sym (saved-whole d e code))
 
 pub returns-then-not-sound : goal.returns-then-not-sound
-unfolding code_in number_of
+unfolding code_in refusal_number
 returns-then-not-sound c =
     let a = c.args in
     let unsound = sym c.sound.ensures ∙ not-true _ c.if-not-sound.true-raw in
     refused a.d a.buf.now 9 ((save-9 a.d (length a.buf.now)).1 unsound) (λ e. omega arith)
 
 pub returns-then-buf-image_len : goal.returns-then-buf-image_len
-unfolding code_in number_of
+unfolding code_in refusal_number
 returns-then-buf-image_len c =
     let a = c.args in
     let sound = sym c.sound.ensures ∙ not-false _ c.if-not-sound.false-raw in
@@ -57,7 +57,7 @@ write_by-requires-else-d-eq1 c =
     subst (λ (n : ℕ). n ≤ length a.buf.now) (sym (size-2 a.d c.if-d-eq1.false)) room
 
 pub returns-then-d-eq1 : goal.returns-then-d-eq1
-unfolding code_in number_of
+unfolding code_in refusal_number
 returns-then-d-eq1 c =
     let a = c.args in
     let sound = sym c.sound.ensures ∙ not-false _ c.if-not-sound.false-raw in
@@ -65,7 +65,7 @@ returns-then-d-eq1 c =
     filled a.d a.buf.now _ sound room (c.write_by.ensures ∙ over-1 a.d a.buf.now c.if-d-eq1.true)
 
 pub returns-else-d-eq1 : goal.returns-else-d-eq1
-unfolding code_in number_of
+unfolding code_in refusal_number
 returns-else-d-eq1 c =
     let a = c.args in
     let sound = sym c.sound.ensures ∙ not-false _ c.if-not-sound.false-raw in

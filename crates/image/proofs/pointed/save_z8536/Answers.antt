@@ -5,7 +5,7 @@ use mathlib.Core.List.{List}
 use native.Mathlib.Omega.{arith}
 use lib.ListN.{length}
 use borrow.Author.Tests.{not-true, not-false}
-use Rattle.rules.specs.Refusals.{number_of, code_in}
+use Rattle.rules.specs.Refusals.{refusal_number, code_in}
 use Rattle.z8536.specs.declared.Z8536.{Z8536}
 use Rattle.z8536.proofs.Parts.{parts}
 use Rattle.image.specs.Pointed.{save_code_z8536, saved_z8536}
@@ -17,14 +17,14 @@ refused : (z : Z8536) (e : List ℕ) (n : ℕ) → save_code_z8536 z (length e) 
 refused z e n code not-0 = (sym code, sym (untouched z e (λ h. not-0 (sym code ∙ h))))
 
 pub returns-then-not-sound : goal.returns-then-not-sound
-unfolding code_in number_of
+unfolding code_in refusal_number
 returns-then-not-sound c =
     let a = c.args in
     let unsound = sym c.sound.ensures ∙ not-true _ c.if-not-sound.true-raw in
     refused a.z a.buf.now 9 ((save-9 a.z (length a.buf.now)).1 unsound) (λ e. omega arith)
 
 pub returns-then-buf-lt-IMAGE : goal.returns-then-buf-lt-IMAGE
-unfolding code_in number_of
+unfolding code_in refusal_number
 returns-then-buf-lt-IMAGE c =
     let a = c.args in
     let sound = sym c.sound.ensures ∙ not-false _ c.if-not-sound.false-raw in
@@ -36,7 +36,7 @@ write_z8536-requires c =
     (c.if-buf-lt-IMAGE.false, (parts a.z (sym c.sound.ensures ∙ not-false _ c.if-not-sound.false-raw)).version)
 
 pub returns : goal.returns
-unfolding code_in number_of
+unfolding code_in refusal_number
 returns c =
     let a = c.args in
     let sound = sym c.sound.ensures ∙ not-false _ c.if-not-sound.false-raw in
