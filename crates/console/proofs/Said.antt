@@ -3,7 +3,7 @@
 use Rattle.std.proofs.Common.{Bool, if◌then◌else◌, ◌==◌, ◌∷◌, true, false, not, ◌&&◌, ℕ, ◌+◌, ◌≤◌, ◌≡◌, refl, sym, ap, subst, ◌∙◌, List, [], ◌++◌, length, take, drop, Option, None, Some}
 use native.Mathlib.Nat.{zero-add}
 use native.Mathlib.Omega.{arith}
-use Rattle.std.proofs.lemmas.Bool.{false≢true, true≢false}
+use Rattle.std.proofs.KnownBytes.{Appends-nil, Appends-trans, Consumes-trans}
 use Rattle.std.proofs.lemmas.List.{take-append-drop}
 use Rattle.std.proofs.Math.Seq.{take-append_seam}
 use mathlib.Core.List.{append-nil, append_assoc}
@@ -23,37 +23,6 @@ use Rattle.lines.specs.Pieces.{said_in, kept_after, said_last, input_of}
 use Rattle.session.specs.Sessions.{answer_bytes, device_after, start_of, after_of, answers_in, answers_last, read_in, bytes_read, fed_by, finished_by, answered, outcome_by, printed_for, written_by}
 use Rattle.console.specs.Console.{Answered}
 use Rattle.session.proofs.Laws.{after-append, answers-append, written}
-
--- ---- what a test says
-pub not-not : (b : Bool) → not b ≡ false → b ≡ true
-not-not true h = refl
-not-not false h = absurd (true≢false h)
-
-pub both : (a b : Bool) → (a && b) ≡ true → (a ≡ true) × (b ≡ true)
-both true true h = (refl, refl)
-both true false h = absurd (false≢true h)
-both false b h = absurd (false≢true h)
-
--- ---- bytes that are written, and bytes that are read
-pub appends-none : (u : Option (List ℕ)) → Appends u u []
-appends-none None = tt
-appends-none (Some xs) = sym (append-nil xs)
-
-pub appends-more : (u v w : Option (List ℕ)) (p q : List ℕ) → Appends u v p → Appends v w q → Appends u w (p ++ q)
-appends-more None v w p q h g = tt
-appends-more (Some xs) None w p q h g = absurd h
-appends-more (Some xs) (Some ys) None p q h g = absurd g
-appends-more (Some xs) (Some ys) (Some zs) p q h g = g ∙ ap (λ (l : List ℕ). l ++ q) h ∙ append_assoc xs p q
-
-pub consumes-none : (u : Option (List ℕ)) → Consumes u u []
-consumes-none None = tt
-consumes-none (Some xs) = refl
-
-pub consumes-more : (u v w : Option (List ℕ)) (p q : List ℕ) → Consumes u v p → Consumes v w q → Consumes u w (p ++ q)
-consumes-more None v w p q h g = tt
-consumes-more (Some xs) None w p q h g = absurd h
-consumes-more (Some xs) (Some ys) None p q h g = absurd g
-consumes-more (Some xs) (Some ys) (Some zs) p q h g = h ∙ ap (λ (l : List ℕ). p ++ l) g ∙ sym (append_assoc p q zs)
 
 -- ---- no byte
 pub none-after : (s : Session) → after_of s [] ≡ s
@@ -132,7 +101,7 @@ module _ (s t : Session) (piece out out' : List ℕ) (at : ℕ) (f : Fed) (u v w
   pub said-wrote : Appends u w (answers_in s (take f.next piece))
   said-wrote =
       subst (λ (l : List ℕ). Appends u w l) (sym answers-are)
-      (appends-more u v w (answers_in s (take at piece)) (answers_in t more) wrote
+      (Appends-trans u v w (answers_in s (take at piece)) (answers_in t more) wrote
       (subst (λ (l : List ℕ). Appends v w l) written-are writes))
 
 -- what was read one time after the other, and the answers that were written
@@ -142,14 +111,14 @@ module _ (s t t' : Session) (r r' r'' u v w : Option (List ℕ)) where
       let p = h.0 in
       let q = g.0 in (
         p ++ q,
-        consumes-more r r' r'' p q h.1 g.1,
+        Consumes-trans r r' r'' p q h.1 g.1,
         g.2 ∙ ap (λ (x : Session). after_of x q) h.2 ∙ sym (after-append s p q),
         subst (Appends u w) (sym (answers-append s p q ∙ ap (λ (x : Session). answers_in s p ++ answers_in x q) (sym h.2)))
-            (appends-more u v w (answers_in s p) (answers_in t q) h.3 g.3),
+            (Appends-trans u v w (answers_in s p) (answers_in t q) h.3 g.3),
       )
 
 pub answered-none : (s : Session) (r r' u : Option (List ℕ)) → Consumes r r' [] → Answered s s r r' u u
-answered-none s r r' u h = ([], h, sym (none-after s), subst (Appends u u) (sym (none-answered s)) (appends-none u))
+answered-none s r r' u h = ([], h, sym (none-after s), subst (Appends u u) (sym (none-answered s)) (Appends-nil u))
 
 -- ---- the last line, and the whole input
 pub last-short : (s : Session) → length (answers_last s) ≤ text_room

@@ -1,7 +1,7 @@
 // The lines of an input one after the other, through a lent buffer.
 #![tactic(auto)]
 
-ghost use Rattle.std.specs.Prelude.{◌≡◌, true};
+ghost use Rattle.std.specs.Prelude.{◌≡◌, IsSome};
 ghost use Rattle.input.specs.Input.{unread, handed as handed_of, line_next, line_last};
 
 use lines::Cut;
@@ -20,8 +20,7 @@ pub struct Reader {
 #[derive(Clone, Copy)]
 pub struct Next {
     pub reader: Reader,
-    pub text: Text,
-    pub found: bool,
+    pub line: Option<Text>,
 }
 
 // Before the first byte.
@@ -41,8 +40,7 @@ fn last(t: Text) -> Next
 {
     Next {
         reader: start(),
-        text: t,
-        found: t.len != 0,
+        line: if t.len == 0 { None } else { Some(t) },
     }
 }
 
@@ -50,22 +48,19 @@ fn last(t: Text) -> Next
 fn handed(r: Reader, c: Cut) -> Next
     ensures { result ≡ handed_of r c }
 {
-    let t = c.text;
     if c.whole {
         return Next {
             reader: Reader {
                 text: Text::new(),
                 at: c.next,
-                end: r.end,
+                ..r
             },
-            text: t,
-            found: true,
+            line: Some(c.text),
         };
     }
     Next {
-        reader: r,
-        text: t,
-        found: false,
+        reader: Reader { text: c.text, ..r },
+        line: None,
     }
 }
 
@@ -74,49 +69,40 @@ fn handed(r: Reader, c: Cut) -> Next
 fn cut(r: Reader, buf: &[u8]) -> Next
     ensures { result ≡ line_next r buf.now }
 {
-    let t = r.text;
-    let end = r.end;
-    if buf.len() < end {
-        return Next {
+    match buf.get(..r.end) {
+        Some(read) => handed(r, lines::cut_from(r.text, read, r.at)),
+        None => Next {
             reader: r,
-            text: t,
-            found: false,
-        };
+            line: None,
+        },
     }
-    handed(r, lines::cut_from(t, &buf[..end], r.at))
 }
 
 // The rest of a line that has begun. A proved loop has to end, and nothing says that a line does: the turns are counted, up to a
 // number that no run reaches.
 fn read_on<R: Read>(t: Text, input: &mut R, buf: &mut [u8]) -> Next {
-    let mut u = t;
+    let mut text = t;
     for _ in 0..u64::MAX {
         let end = streams::read(input, buf);
         if end == 0 {
-            return last(u);
+            return last(text);
         }
-        let r = Reader {
-            text: u,
-            at: 0,
-            end,
-        };
-        let n = cut(r, buf);
-        if n.found {
+        let n = cut(Reader { text, at: 0, end }, buf);
+        if n.line.is_some() {
             return n;
         }
-        u = n.text;
+        text = n.reader.text;
     }
-    last(u)
+    last(text)
 }
 
 // The next line of an input: where its end was read already, that line, and nothing more is read.
 pub fn next_line<R: Read>(r: Reader, input: &mut R, buf: &mut [u8]) -> Next
-    ensures { (line_next r buf.old).found ≡ true → (result ≡ line_next r buf.old) × (buf.new ≡ buf.old) × (input.new ≡ input.old) }
+    ensures { IsSome (line_next r buf.old).line → (result ≡ line_next r buf.old) × (buf.new ≡ buf.old) × (input.new ≡ input.old) }
 {
     let n = cut(r, buf);
-    if n.found {
+    if n.line.is_some() {
         return n;
     }
-    let t = n.text;
-    read_on(t, input, buf)
+    read_on(n.reader.text, input, buf)
 }

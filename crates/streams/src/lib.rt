@@ -1,11 +1,11 @@
-// Bytes of a reader and bytes to a writer: how many came, and whether all went. Where the system fails, nothing comes and nothing goes.
+// Bytes of a reader: how many came. Where the system fails, nothing comes.
 #![tactic(auto)]
 
-ghost use Rattle.std.specs.Prelude.{◌≡◌, true, take};
-ghost use Rattle.std.specs.Io.KnownBytes.{Appends, Consumes};
+ghost use Rattle.std.specs.Prelude.{take};
+ghost use Rattle.std.specs.Io.KnownBytes.{Consumes};
 ghost use Rattle.streams.specs.Counts.{IsPrefixLen};
 
-use std::io::{Read, Write};
+use std::io::Read;
 
 // A buffer that holds any name of a file.
 pub const BUFFER: usize = 4_096;
@@ -34,16 +34,4 @@ pub fn read_full<R: Read>(input: &mut R, buf: &mut [u8]) -> usize
         done += n;
     }
     done
-}
-
-// Writes bytes. Answers whether all of them were written.
-pub fn write_all<W: Write>(out: &mut W, bytes: &[u8]) -> bool
-    ensures { result ≡ true → Appends (W.contents out.old) (W.contents out.new) bytes.now }
-{
-    out.write_all(bytes).is_ok()
-}
-
-// Writes a number in decimal digits. Answers whether all of them were written.
-pub fn print_decimal<W: Write>(out: &mut W, n: u64) -> bool {
-    write!(out, "{n}").is_ok()
 }
