@@ -1,15 +1,14 @@
 // Image files. A file is replaced whole or not at all: the image goes to a new file beside it, is written out to the
 // disk, and then takes its name; then the folder is written out too.
-ghost use Rattle.std.specs.Prelude.{true, false, ◌≡◌, IfOk};
-ghost use Rattle.streams.specs.Counts.{IsPrefixLen};
-ghost use Rattle.chip.specs.Chips.{sound_chip};
-ghost use Rattle.ctc_rules.specs.Sound.{sound_ctc};
-ghost use Rattle.image_files.specs.Files.{is_dash, is_dash_z8536, is_dash_ctc, loaded_chip, loaded_ctc, fresh_loaded, fresh_loaded_z8536, fresh_loaded_ctc};
+ghost use Rattle.std.specs.Prelude.{true, false, ◌≡◌, IsErr};
+ghost use Rattle.image_files.specs.Files.{is_dash, is_dash_z8536, is_dash_ctc, fresh_loaded, fresh_loaded_z8536, fresh_loaded_ctc, fresh_named, sound_held};
 
-use crate::Loaded;
+use crate::held::{Held, LONGEST};
+use crate::name::Name;
 use chip::Chip;
 use console::print;
 use ctc_rules::Ctc;
+use image::Restored;
 use phrases::Trouble;
 use rules::Device;
 use std::fs::{File, OpenFile, OpenOptions};
@@ -17,14 +16,17 @@ use std::io::{ErrorKind, Read, Write};
 use std::os::unix::fs::OpenOptionsExt;
 use std::rt::Files;
 use std::{fs, io};
-use streams::{BUFFER, write_all};
 use texts::Text;
 use z8536::Z8536;
 
+// It did not go well, and a line has said why.
+#[derive(Clone, Copy)]
+pub struct Reported;
+
 // A line that begins with the file's name.
 fn say<W: Write>(report: &mut W, path: &[u8], t: Text) {
-    write_all(report, path);
-    print(report, t);
+    let _ = report.write_all(path);
+    let _ = print(report, t);
 }
 
 // The system's numbers of the errors that have words of their own.
@@ -54,32 +56,20 @@ pub fn trouble<W: Write>(report: &mut W, path: &[u8], writing: bool, error: &io:
     say(report, path, phrases::trouble_line(writing, why(error)));
 }
 
-fn of_chip(d: Chip) -> Loaded
-    ensures { result ≡ loaded_chip d }
-{
-    Loaded {
-        device: d,
-        ctc: Ctc::fresh(),
-        is_ctc: false,
-        ok: true,
+// What a call on a file answers; where it failed, a line says so.
+pub(crate) fn told<T: Drop, W: Write>(
+    done: io::Result<T>,
+    writing: bool,
+    path: &[u8],
+    report: &mut W,
+) -> Result<T, Reported> {
+    match done {
+        Ok(value) => Ok(value),
+        Err(error) => {
+            trouble(report, path, writing, &error);
+            Err(Reported)
+        }
     }
-}
-
-fn of_ctc(d: Ctc) -> Loaded
-    ensures { result ≡ loaded_ctc d }
-{
-    Loaded {
-        device: Chip::from(Device::fresh()),
-        ctc: d,
-        is_ctc: true,
-        ok: true,
-    }
-}
-
-fn none() -> Loaded {
-    let mut l = of_ctc(Ctc::fresh());
-    l.ok = false;
-    l
 }
 
 // The name of a file, which is text here.
@@ -95,125 +85,93 @@ pub fn open_read<F: Files>(files: &F, path: &[u8]) -> io::Result<F::File> {
     File::open(files, name_of(path)?)
 }
 
+// The first byte of a CTC's image.
+const CTC_FIRST: u8 = 0x11;
+
 // How long an image is that begins with a byte; one that is unknown counts as of version 1.
 fn image_len_by(first: u8) -> u32 {
     match first {
+        CTC_FIRST => Ctc::IMAGE as u32,
         2 => Device::IMAGE as u32,
         3 => Z8536::IMAGE as u32,
         _ => Device::OLD_IMAGE as u32,
     }
 }
 
-// The first byte of a CTC's image.
-const CTC_FIRST: u8 = 0x11;
-
-// The CTC of an image.
-fn restore_ctc<W: Write>(s: &[u8], path: &[u8], report: &mut W) -> Loaded {
-    let r = ctc_image::restore(s);
-    if r.code != 0 {
-        say(
-            report,
-            path,
-            phrases::refusal_line(r.code, Ctc::IMAGE as u32, s.len()),
-        );
-        return none();
+// The device of an image that begins with a byte.
+fn restored(first: u8, image: &[u8]) -> Restored<Held> {
+    if first == CTC_FIRST {
+        let r = ctc_image::restore(image);
+        return Restored {
+            code: r.code,
+            device: Held::Ctc(r.device),
+        };
     }
-    of_ctc(r.device)
+    let r = chip_image::restore(image);
+    Restored {
+        code: r.code,
+        device: Held::Chip(r.device),
+    }
 }
 
 // The device of an open file. One byte more is read than the longest image has: then a longer file is refused too. Where nothing
 // comes of a file, a further read tells whether it is empty.
-fn restore_from<R: Read, W: Write>(file: &mut R, path: &[u8], report: &mut W) -> Loaded {
-    let mut buf = [0u8; Z8536::IMAGE + 1];
+fn restore_from<R: Read, W: Write>(
+    file: &mut R,
+    path: &[u8],
+    report: &mut W,
+) -> Result<Held, Reported> {
+    let mut buf = [0; LONGEST + 1];
     let n = streams::read_full(file, &mut buf);
     if n == 0 {
-        if let Err(error) = file.read(&mut [0]) {
-            trouble(report, path, false, &error);
-            return none();
-        }
+        told(file.read(&mut [0]), false, path, report)?;
     }
-    if buf[0] == CTC_FIRST {
-        return restore_ctc(&buf[..n], path, report);
-    }
-    let r = chip_image::restore(&buf[..n]);
+    let first = buf[0];
+    let r = restored(first, &buf[..n]);
     if r.code != 0 {
         say(
             report,
             path,
-            phrases::refusal_line(r.code, image_len_by(buf[0]), n),
+            phrases::refusal_line(r.code, image_len_by(first), n),
         );
-        return none();
+        return Err(Reported);
     }
-    of_chip(r.device)
+    Ok(r.device)
 }
 
-// The device of an image file; `-` names the fresh Z8036, `-z8536` the fresh Z8536, `-ctc` the fresh CTC.
-pub fn load<F: Files, W: Write>(files: &F, path: &[u8], report: &mut W) -> Loaded
+// The fresh device that a name stands for, if it does: `-` for the Z8036, `-z8536` for the Z8536, `-ctc` for the CTC.
+#[tactic(auto, unfolding(texts::specs::Spelled::spelled), using(crate::proofs::Names::same_is))]
+fn fresh(path: &[u8]) -> Option<Held>
+    ensures { result ≡ fresh_named path.now }
+{
+    if path == b"-".as_slice() {
+        return Some(Held::Chip(Chip::from(Device::fresh())));
+    }
+    if path == b"-z8536".as_slice() {
+        return Some(Held::Chip(Chip::from(Z8536::fresh())));
+    }
+    if path == b"-ctc".as_slice() {
+        return Some(Held::Ctc(Ctc::fresh()));
+    }
+    None
+}
+
+// The device of an image file, or the fresh one that the name stands for.
+#[tactic(auto, using(crate::proofs::Names::z8036_named, crate::proofs::Names::z8536_named, crate::proofs::Names::ctc_named))]
+pub fn load<F: Files, W: Write>(files: &F, path: &[u8], report: &mut W) -> Result<Held, Reported>
     ensures value { is_dash path.now ≡ true → result ≡ fresh_loaded }
     ensures value_2 { is_dash_z8536 path.now ≡ true → result ≡ fresh_loaded_z8536 }
     ensures value_3 { is_dash_ctc path.now ≡ true → result ≡ fresh_loaded_ctc }
 {
-    if image::same_bytes(path, b"-") {
-        return of_chip(Chip::from(Device::fresh()));
+    if let Some(d) = fresh(path) {
+        return Ok(d);
     }
-    if image::same_bytes(path, b"-z8536") {
-        return of_chip(Chip::from(Z8536::fresh()));
-    }
-    if image::same_bytes(path, b"-ctc") {
-        return of_ctc(Ctc::fresh());
-    }
-    match open_read(files, path) {
-        Ok(mut file) => restore_from(&mut file, path, report),
-        Err(error) => {
-            trouble(report, path, false, &error);
-            none()
-        }
-    }
+    let mut file = told(open_read(files, path), false, path, report)?;
+    restore_from(&mut file, path, report)
 }
 
 // How many names are tried for a new file, until one is free.
 const NAMES: u32 = 238_328;
-
-// Letter k of the six that tell the names apart.
-fn letter(turn: u32, k: usize) -> u8 {
-    let rest = match k {
-        0 => turn,
-        1 => turn / 26,
-        2 => turn / 676,
-        3 => turn / 17_576,
-        4 => turn / 456_976,
-        _ => turn / 11_881_376,
-    };
-    b'a' + (rest % 26) as u8
-}
-
-// Byte i of the name of a new file beside another: the name, a point, and six letters.
-fn byte_beside(path: &[u8], turn: u32, i: usize) -> u8 {
-    if i < path.len() {
-        return path[i];
-    }
-    if i == path.len() {
-        return b'.';
-    }
-    letter(turn, i - path.len() - 1)
-}
-
-// The name of a new file beside another, and its length, or 0 where it is too long.
-fn beside(path: &[u8], turn: u32, name: &mut [u8]) -> usize
-    ensures { IsPrefixLen result name.new }
-{
-    if name.len() < 7 {
-        return 0;
-    }
-    if name.len() - 7 < path.len() {
-        return 0;
-    }
-    let n = path.len() + 7;
-    for i in 0..n {
-        name[i] = byte_beside(path, turn, i);
-    }
-    n
-}
 
 // Makes a new file, its owner's to read and write and nobody else's.
 fn create<F: Files>(files: &F, path: &[u8]) -> io::Result<F::File> {
@@ -225,17 +183,12 @@ fn create<F: Files>(files: &F, path: &[u8]) -> io::Result<F::File> {
         .open(files, name_of(path)?)
 }
 
-// Makes a new file beside another, by the first name that is free, and answers it with the length of its name.
-fn create_beside<F: Files>(files: &F, path: &[u8], name: &mut [u8]) -> io::Result<(F::File, usize)>
-    ensures { IfOk result (λ made. IsPrefixLen made.1 name.new) }
-{
+// Makes a new file beside another, by the first name that is free.
+fn create_beside<F: Files>(files: &F, path: &[u8]) -> io::Result<(F::File, Name)> {
     for turn in 0..NAMES {
-        let n = beside(path, turn, name);
-        if n == 0 {
-            return Err(io::Error::from(ErrorKind::InvalidFilename));
-        }
-        match create(files, &name[..n]) {
-            Ok(file) => return Ok((file, n)),
+        let name = Name::beside(path, turn)?;
+        match create(files, name.as_slice()) {
+            Ok(file) => return Ok((file, name)),
             Err(error) => {
                 if error.kind() != ErrorKind::AlreadyExists {
                     return Err(error);
@@ -247,18 +200,10 @@ fn create_beside<F: Files>(files: &F, path: &[u8], name: &mut [u8]) -> io::Resul
 }
 
 // Takes a file away that was made beside another. Nothing can be done where the system does not let it go.
-fn remove<F: Files>(files: &F, path: &[u8]) {
-    if let Ok(name) = name_of(path) {
+fn remove<F: Files>(files: &F, name: Name) {
+    if let Ok(name) = name_of(name.as_slice()) {
         let _ = fs::remove_file(files, name);
     }
-}
-
-fn made_and_gone<F: Files>(files: &F, path: &[u8]) -> io::Result<()> {
-    let mut name = [0; BUFFER];
-    let (file, n) = create_beside(files, path, &mut name)?;
-    drop(file);
-    remove(files, &name[..n]);
-    Ok(())
 }
 
 // Opens a file to read and write, as it stands.
@@ -269,32 +214,29 @@ fn open_update<F: Files>(files: &F, path: &[u8]) -> io::Result<F::File> {
         .open(files, name_of(path)?)
 }
 
-// Whether the name is a folder's, which no file can take; a line says so.
-fn is_folder<F: Files, W: Write>(files: &F, path: &[u8], report: &mut W) -> bool {
+// That the name is no folder's, which no file can take.
+fn no_folder<F: Files>(files: &F, path: &[u8]) -> io::Result<()> {
     match open_update(files, path) {
-        Ok(_) => false,
-        Err(error) => {
-            if error.kind() != ErrorKind::IsADirectory {
-                return false;
-            }
-            trouble(report, path, true, &error);
-            true
-        }
+        Err(error) if error.kind() == ErrorKind::IsADirectory => Err(error),
+        _ => Ok(()),
     }
 }
 
-// Whether a file can be made beside this one, which is no folder; it is taken away again.
-pub(crate) fn can_keep<F: Files, W: Write>(files: &F, path: &[u8], report: &mut W) -> bool {
-    if is_folder(files, path, report) {
-        return false;
-    }
-    match made_and_gone(files, path) {
-        Ok(()) => true,
-        Err(error) => {
-            trouble(report, path, true, &error);
-            false
-        }
-    }
+// That a file can be made beside this one, which is no folder; it is taken away again.
+fn made_and_gone<F: Files>(files: &F, path: &[u8]) -> io::Result<()> {
+    no_folder(files, path)?;
+    let (file, name) = create_beside(files, path)?;
+    drop(file);
+    remove(files, name);
+    Ok(())
+}
+
+pub(crate) fn can_keep<F: Files, W: Write>(
+    files: &F,
+    path: &[u8],
+    report: &mut W,
+) -> Result<(), Reported> {
+    told(made_and_gone(files, path), true, path, report)
 }
 
 // Writes an image out to the disk.
@@ -303,27 +245,16 @@ fn write_out<F: Write + OpenFile>(file: &mut F, image: &[u8]) -> io::Result<()> 
     file.sync_all()
 }
 
-// How much of a name is its folder's: what ends in the last stroke.
-fn folder_len(path: &[u8]) -> usize
-    ensures { IsPrefixLen result path.now }
-{
-    match path.iter().rposition(|b| *b == b'/') {
-        Some(stroke) => stroke + 1,
-        None => 0,
-    }
-}
-
 fn folder_out<F: Files>(files: &F, folder: &[u8]) -> io::Result<()> {
     open_read(files, folder)?.sync_all()
 }
 
 // Writes the folder of a file out to the disk, so that the file's new name lasts.
 fn name_out<F: Files>(files: &F, path: &[u8]) -> io::Result<()> {
-    let n = folder_len(path);
-    if n == 0 {
-        return folder_out(files, b".");
+    match path.iter().rposition(|b| *b == b'/') {
+        Some(stroke) => folder_out(files, &path[..stroke + 1]),
+        None => folder_out(files, b"."),
     }
-    folder_out(files, &path[..n])
 }
 
 // Gives a file another name.
@@ -331,87 +262,58 @@ fn rename<F: Files>(files: &F, from: &[u8], to: &[u8]) -> io::Result<()> {
     fs::rename(files, name_of(from)?, name_of(to)?)
 }
 
-// Puts an image into a new file, and gives that file the name.
-fn replace_by<F: Files, W: Write>(
+// Writes an image into a new file, and gives the file another name.
+fn fill<F: Files>(
     files: &F,
-    name: &mut [u8],
+    made: F::File,
+    name: &[u8],
     path: &[u8],
-    report: &mut W,
     image: &[u8],
-) -> bool {
-    let (mut file, n) = match create_beside(files, path, name) {
-        Ok(made) => made,
-        Err(error) => {
-            trouble(report, path, true, &error);
-            return false;
-        }
-    };
-    if let Err(error) = write_out(&mut file, image) {
-        trouble(report, path, true, &error);
-        drop(file);
-        remove(files, &name[..n]);
-        return false;
-    }
+) -> io::Result<()> {
+    let mut file = made;
+    write_out(&mut file, image)?;
     drop(file);
-    if let Err(error) = rename(files, &name[..n], path) {
-        trouble(report, path, true, &error);
-        remove(files, &name[..n]);
-        return false;
+    rename(files, name, path)
+}
+
+// Puts an image into a new file, and gives that file the name.
+fn replace<F: Files>(files: &F, path: &[u8], image: &[u8]) -> io::Result<()> {
+    let (file, name) = create_beside(files, path)?;
+    let filled = fill(files, file, name.as_slice(), path, image);
+    if filled.is_err() {
+        remove(files, name);
     }
+    filled
+}
+
+// Saves a device to an image file; where it is not saved, the file is as it was.
+pub fn keep<F: Files, W: Write>(
+    files: &F,
+    path: &[u8],
+    d: Held,
+    report: &mut W,
+) -> Result<(), Reported>
+    ensures { sound_held d ≡ false → IsErr result }
+{
+    let mut image = [0; LONGEST];
+    let code = d.save(&mut image);
+    if code != 0 {
+        say(
+            report,
+            path,
+            phrases::refusal_line(code, LONGEST as u32, LONGEST),
+        );
+        return Err(Reported);
+    }
+    told(
+        replace(files, path, &image[..d.image_len()]),
+        true,
+        path,
+        report,
+    )?;
     if name_out(files, path).is_err() {
-        write_all(report, path);
-        write_all(report, b": saved, but its folder cannot be written out\n");
+        let _ = report.write_all(path);
+        let _ = report.write_all(b": saved, but its folder cannot be written out\n");
     }
-    true
-}
-
-fn replace<F: Files, W: Write>(files: &F, path: &[u8], report: &mut W, image: &[u8]) -> bool {
-    let mut name = [0; BUFFER];
-    replace_by(files, &mut name, path, report, image)
-}
-
-// How much of a buffer the image of a device fills.
-fn image_part(d: Chip, buf: &[u8]) -> usize
-    ensures { IsPrefixLen result buf.now }
-{
-    let n = chip_image::image_len(d);
-    if buf.len() < n {
-        return buf.len();
-    }
-    n
-}
-
-// Saves a device to an image file. Answers whether it is saved; where not, the file is as it was, and a line says why.
-#[tactic(auto, unfolding(rules::specs::Refusals::code_in), using(crate::proofs::Unsaved::saved_sound))]
-pub fn keep<F: Files, W: Write>(files: &F, path: &[u8], d: Chip, report: &mut W) -> bool
-    ensures { sound_chip d ≡ false → result ≡ false }
-{
-    let mut image = [0u8; Z8536::IMAGE];
-    if let Err(refusal) = chip_image::save(d, &mut image) {
-        say(
-            report,
-            path,
-            phrases::refusal_line(refusal.number(), Z8536::IMAGE as u32, Z8536::IMAGE),
-        );
-        return false;
-    }
-    let n = image_part(d, &image);
-    replace(files, path, report, &image[..n])
-}
-
-// Saves a CTC likewise.
-#[tactic(auto, unfolding(rules::specs::Refusals::code_in), using(crate::proofs::Unsaved::saved_sound_ctc))]
-pub fn keep_ctc<F: Files, W: Write>(files: &F, path: &[u8], d: Ctc, report: &mut W) -> bool
-    ensures { sound_ctc d ≡ false → result ≡ false }
-{
-    let mut image = [0u8; Ctc::IMAGE];
-    if let Err(refusal) = ctc_image::save(d, &mut image) {
-        say(
-            report,
-            path,
-            phrases::refusal_line(refusal.number(), Ctc::IMAGE as u32, Ctc::IMAGE),
-        );
-        return false;
-    }
-    replace(files, path, report, &image)
+    Ok(())
 }

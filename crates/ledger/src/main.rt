@@ -4,7 +4,6 @@
 
 use rules::{Device, Event, Outcome};
 use std::io::Write;
-use streams::write_all;
 
 // How many codes there are, and how many beats are between two nights.
 const CODES: usize = 24;
@@ -28,8 +27,8 @@ fn code(i: usize) -> u8 {
 
 // Writes a byte in hexadecimal behind a word.
 fn say<W: Write>(out: &mut W, word: &[u8], b: u8) {
-    write_all(out, word);
-    write_all(out, &[texts::glyph(b / 16), texts::glyph(b % 16), b'\n']);
+    let _ = out.write_all(word);
+    let _ = out.write_all(&[texts::glyph(b / 16), texts::glyph(b % 16), b'\n']);
 }
 
 // One more of byte b, if it is a code.

@@ -5,7 +5,6 @@
 
 use chip::Chip;
 use ctc_rules::Ctc;
-use streams::write_all;
 
 fn show(rt: &HostRuntime, path: &[u8]) {
     image_files::show(rt, path, &mut rt.stdout(), &mut rt.stdout());
@@ -70,9 +69,9 @@ fn print_same(rt: &HostRuntime, one: &[u8], other: &[u8]) {
     let b = image_files::load(rt, other, &mut rt.stdout());
     let alike = (a.is_ctc == b.is_ctc) & same(a.device, b.device) & same_ctc(a.ctc, b.ctc);
     if a.ok & b.ok & alike {
-        write_all(&mut rt.stdout(), b"same\n");
+        let _ = rt.stdout().write_all(b"same\n");
     } else {
-        write_all(&mut rt.stdout(), b"lost\n");
+        let _ = rt.stdout().write_all(b"lost\n");
     }
 }
 

@@ -4,7 +4,6 @@
 
 use rules::{Device, Event};
 use std::io::Write;
-use streams::write_all;
 
 const EVENTS: usize = 53;
 
@@ -78,9 +77,9 @@ struct Pair {
 
 fn print_same<W: Write>(out: &mut W, d: Device, e: Device) {
     if record::same(d, e) {
-        write_all(out, b"1\n");
+        let _ = out.write_all(b"1\n");
     } else {
-        write_all(out, b"0\n");
+        let _ = out.write_all(b"0\n");
     }
 }
 
@@ -102,8 +101,8 @@ fn step<W: Write>(out: &mut W, p: Pair, i: usize) -> Pair {
     let h = event::event(f, e);
     let a = o.answer;
     let b = h.answer;
-    console::print(out, texts::answer_text(a));
-    console::print(out, texts::answer_text(b));
+    let _ = console::print(out, texts::answer_text(a));
+    let _ = console::print(out, texts::answer_text(b));
     let x = o.device;
     let y = h.device;
     print_same(out, x, y);

@@ -12,6 +12,7 @@ unfolding finished_by
 returns g c =
     let e =
     ap (λ (n : ℕ). take n c.finish-a.new.out) (ap (λ (x : Told). x.len) c.finish-a.ensures.value)
-    ∙ ap (λ (l : List ℕ). take (finished_by c.args.s (replicate 4096 0)).len l) c.finish-a.ensures.out_after ∙ last-laid c.args.s (replicate 4096 0) (search rules) in
-    (ap (λ (x : Told). x.device) c.finish-a.ensures.value,
-    subst (Appends (g.W.Write.contents c.args.answers.now) (g.W.Write.contents c.write_all.new.self)) e c.in_ok-write_all.ensures.bytes)
+    ∙ ap (λ (l : List ℕ). take (finished_by c.args.s (replicate 4096 0)).len l) c.finish-a.ensures.out_after ∙ last-laid c.args.s (replicate 4096 0) (search rules) in (
+      ap (λ (x : Told). x.device) c.finish-a.ensures.value,
+      subst (Appends (g.W.Write.contents c.args.answers.now) (g.W.Write.contents c.write_all.new.self)) e c.in_ok-write_all.ensures.bytes,
+    )
