@@ -5,12 +5,13 @@ mod parting;
 
 use bench_lines::Compared;
 use chip::{Chip, Vetted};
-use parting::Stop;
+use image_files::{Held, Reported};
+use parting::Parting;
 use rules::Answer;
 use std::env::FillError;
 use std::io::{Read, Write};
 use std::rt::{Env, Files};
-use streams::{BUFFER, print_decimal, write_all};
+use streams::BUFFER;
 
 // A device after an event, the model's answer to it, and that answer beside the board's.
 #[derive(Drop)]
@@ -20,70 +21,28 @@ pub struct Turn {
     pub compared: Option<Compared>,
 }
 
-// Whether an input that has no more is at its end; where it cannot be read, a line says so.
-fn at_end<R: Read, E: Write>(input: &mut R, path: &[u8], report: &mut E) -> bool {
-    if let Err(error) = input.read(&mut [0]) {
-        image_files::trouble(report, path, false, &error);
-        return false;
+// That an input which has no more is at its end; where it cannot be read, a line says so.
+fn at_end<R: Read, E: Write>(
+    input: &mut R,
+    path: &[u8],
+    report: &mut E,
+) -> Result<(), Reported> {
+    match input.read(&mut [0]) {
+        Ok(_) => Ok(()),
+        Err(error) => {
+            image_files::trouble(report, path, false, &error);
+            Err(Reported)
+        }
     }
-    true
 }
 
 // What is said of a line of BOARD.
-fn say_line<E: Write>(report: &mut E, board: &[u8], line: u64, what: &[u8]) {
-    write_all(report, board);
-    write_all(report, b": line ");
-    print_decimal(report, line);
-    write_all(report, what);
+fn say_line<E: Write>(report: &mut E, board: &[u8], line: u64, what: &str) {
+    let _ = report.write_all(board);
+    let _ = writeln!(report, ": line {line} is {what}");
 }
 
-// What stopped at a line of which both files have one was printed, if the line is readable.
-fn say_unreadable<E: Write>(p: Stop, board: &[u8], report: &mut E) {
-    if !p.readable {
-        say_line(report, board, p.line, b" is unreadable\n");
-    }
-}
-
-// One or both have ended.
-fn say_ended<W: Write, E: Write>(p: Stop, board: &[u8], out: &mut W, report: &mut E) {
-    if p.has_event {
-        say_line(
-            report,
-            board,
-            p.line,
-            b" is missing, and the trace has one\n",
-        );
-        return;
-    }
-    if p.has_answer {
-        say_line(report, board, p.line, b" is one too many for the trace\n");
-        return;
-    }
-    print_decimal(out, p.agreed);
-    write_all(out, b" lines agree\n");
-}
-
-// Whether what has ended has been read to its end.
-fn all_read<R: Read, S: Read, E: Write>(
-    p: Stop,
-    events: &mut R,
-    trace: &[u8],
-    answers: &mut S,
-    board: &[u8],
-    report: &mut E,
-) -> bool {
-    if !p.has_event {
-        if !at_end(events, trace, report) {
-            return false;
-        }
-    }
-    if !p.has_answer {
-        return at_end(answers, board, report);
-    }
-    true
-}
-
-// From a device on: the trace of one input, and the board's answers of another.
+// From a device on: the trace of one input, and the board's answers of another. What has ended has to be read to its end.
 fn agree_from<R: Read, S: Read, W: Write, E: Write>(
     d: Chip,
     events: &mut R,
@@ -92,45 +51,58 @@ fn agree_from<R: Read, S: Read, W: Write, E: Write>(
     board: &[u8],
     out: &mut W,
     report: &mut E,
-) {
-    let p = parting::part(d, events, answers, out);
-    if !all_read(p, events, trace, answers, board, report) {
-        return;
+) -> Result<(), Reported> {
+    match parting::part(d, events, answers, out) {
+        Parting::Apart => {}
+        Parting::Unreadable(line) => say_line(report, board, line, "unreadable"),
+        Parting::NoAnswer(line) => {
+            at_end(answers, board, report)?;
+            say_line(report, board, line, "missing, and the trace has one");
+        }
+        Parting::NoEvent(line) => {
+            at_end(events, trace, report)?;
+            say_line(report, board, line, "one too many for the trace");
+        }
+        Parting::Ended(agreed) => {
+            at_end(events, trace, report)?;
+            at_end(answers, board, report)?;
+            let _ = writeln!(out, "{agreed} lines agree");
+        }
     }
-    if p.has_event & p.has_answer {
-        say_unreadable(p, board, report);
-        return;
-    }
-    say_ended(p, board, out, report);
+    Ok(())
 }
 
-fn agree_with<F: Files, R: Read, W: Write, E: Write>(
+// Opens a file to read; where it cannot be opened, a line says so.
+fn opened<F: Files, E: Write>(
     files: &F,
-    d: Chip,
-    events: &mut R,
-    trace: &[u8],
-    board: &[u8],
-    out: &mut W,
+    path: &[u8],
     report: &mut E,
-) {
-    match image_files::open_read(files, board) {
-        Ok(mut answers) => agree_from(d, events, trace, &mut answers, board, out, report),
-        Err(error) => image_files::trouble(report, board, false, &error),
+) -> Result<F::File, Reported> {
+    match image_files::open_read(files, path) {
+        Ok(file) => Ok(file),
+        Err(error) => {
+            image_files::trouble(report, path, false, &error);
+            Err(Reported)
+        }
     }
 }
 
-fn agree_chip<F: Files, W: Write, E: Write>(
+fn agree_files<F: Files, W: Write, E: Write>(
     files: &F,
-    d: Chip,
     trace: &[u8],
     board: &[u8],
+    image: &[u8],
     out: &mut W,
     report: &mut E,
-) {
-    match image_files::open_read(files, trace) {
-        Ok(mut events) => agree_with(files, d, &mut events, trace, board, out, report),
-        Err(error) => image_files::trouble(report, trace, false, &error),
-    }
+) -> Result<(), Reported> {
+    let Held::Chip(d) = image_files::load(files, image, report)? else {
+        let _ = report.write_all(image);
+        let _ = report.write_all(b": the image of a CTC, which answers in another form\n");
+        return Err(Reported);
+    };
+    let mut events = opened(files, trace, report)?;
+    let mut answers = opened(files, board, report)?;
+    agree_from(d, &mut events, trace, &mut answers, board, out, report)
 }
 
 // Whether the answers of the file BOARD are the model's to the file TRACE, from the device of an image file on: how many lines agree,
@@ -143,19 +115,7 @@ pub fn agree<F: Files, W: Write, E: Write>(
     out: &mut W,
     report: &mut E,
 ) {
-    let l = image_files::load(files, image, report);
-    if !l.ok {
-        return;
-    }
-    if l.is_ctc {
-        write_all(report, image);
-        write_all(
-            report,
-            b": the image of a CTC, which answers in another form\n",
-        );
-        return;
-    }
-    agree_chip(files, l.device, trace, board, out, report);
+    let _ = agree_files(files, trace, board, image, out, report);
 }
 
 // The third argument, where there is one, names the image file; else it is the fresh Z8036.
@@ -175,8 +135,7 @@ fn agree_third<S: Files + Env, W: Write, E: Write>(
 }
 
 fn say_arguments<E: Write>(report: &mut E) {
-    write_all(
-        report,
+    let _ = report.write_all(
         b"agree: the arguments are TRACE and BOARD, and after them may stand an image file\n",
     );
 }

@@ -7,18 +7,20 @@ use bench_lines::FIELDS;
 use chip::{Chip, Vetted};
 use console::print;
 use input::Reader;
+use rules::Answer;
 use std::io::{Read, Write};
-use streams::{LARGE_BUFFER, print_decimal, write_all};
+use streams::LARGE_BUFFER;
 use texts::{ROOM, Text};
 
-// How many lines agree; then the number of the line that does not, or that is not there, and of what was found there.
+// How two files part, and at which line; or how many lines agree, where both have ended.
 #[derive(Clone, Copy)]
-pub(crate) struct Stop {
-    pub agreed: u64,
-    pub line: u64,
-    pub has_event: bool,
-    pub has_answer: bool,
-    pub readable: bool,
+pub(crate) enum Parting {
+    // The lines do not agree, and were printed.
+    Apart,
+    Unreadable(u64),
+    NoEvent(u64),
+    NoAnswer(u64),
+    Ended(u64),
 }
 
 // Says a line of TRACE to the device, and compares the answer with a line of BOARD.
@@ -90,42 +92,36 @@ fn ready(r: Reader, buf: &[u8]) -> usize
 
 // A label as `show` has them, and a line as it stands in its file.
 fn print_line<W: Write>(out: &mut W, label: &[u8], t: Text) {
-    write_all(out, label);
+    let _ = out.write_all(label);
     if ROOM < t.len {
-        write_all(out, b"a line of more than 96 bytes\n");
+        let _ = out.write_all(b"a line of more than 96 bytes\n");
         return;
     }
-    print(out, t);
-    write_all(out, b"\n");
+    let _ = print(out, t);
+    let _ = out.write_all(b"\n");
 }
 
-fn print_field<W: Write>(out: &mut W, place: usize, differs: bool) {
-    if differs {
-        print_line(out, b"differs         ", bench_lines::field_name(place));
-    }
-}
-
-// The fields that differ, by name.
-fn print_fields<W: Write>(out: &mut W, differs: [bool; FIELDS]) {
-    for i in 0..FIELDS {
-        print_field(out, i, differs[i]);
-    }
-}
-
-// A line that is readable and does not agree, and the device before it.
-fn print_parted<W: Write>(out: &mut W, line: u64, d: Chip, event: Text, board: Text, t: &Turn) {
-    let Some(c) = t.compared else {
-        return;
-    };
-    write_all(out, b"line            ");
-    print_decimal(out, line);
-    write_all(out, b"\n");
+// A line that is readable and does not agree, the fields that differ by name, and the device before it.
+fn print_parted<W: Write>(
+    out: &mut W,
+    line: u64,
+    d: Chip,
+    event: Text,
+    board: Text,
+    model: Answer,
+    differs: [bool; FIELDS],
+) {
+    let _ = writeln!(out, "line            {line}");
     print_line(out, b"event           ", event);
     print_line(out, b"board           ", board);
-    write_all(out, b"model           ");
-    print(out, texts::answer_text(t.model));
-    print_fields(out, c.differs);
-    write_all(out, b"before this event\n");
+    let _ = out.write_all(b"model           ");
+    let _ = print(out, texts::answer_text(model));
+    for (place, differs) in differs.iter().enumerate() {
+        if *differs {
+            print_line(out, b"differs         ", bench_lines::field_name(place));
+        }
+    }
+    let _ = out.write_all(b"before this event\n");
     image_files::show_device(d, out);
 }
 
@@ -137,7 +133,7 @@ pub(crate) fn part<R: Read, S: Read, W: Write>(
     events: &mut R,
     answers: &mut S,
     out: &mut W,
-) -> Stop {
+) -> Parting {
     let mut read = [0; LARGE_BUFFER];
     let mut measured = [0; LARGE_BUFFER];
     let mut r = input::start();
@@ -145,49 +141,43 @@ pub(crate) fn part<R: Read, S: Read, W: Write>(
     let mut device = Vetted::of(d);
     let mut agreed: u64 = 0;
     while agreed < u64::MAX {
+        let line = agreed + 1;
         let n = input::next_line(r, events, &mut read);
         let m = input::next_line(s, answers, &mut measured);
-        r = n.reader;
-        s = m.reader;
-        if !(n.found & m.found) {
-            return Stop {
-                agreed,
-                line: agreed + 1,
-                has_event: n.found,
-                has_answer: m.found,
-                readable: true,
-            };
+        let (event, board) = match (n.line, m.line) {
+            (Some(event), Some(board)) => (event, board),
+            (Some(_), None) => return Parting::NoAnswer(line),
+            (None, Some(_)) => return Parting::NoEvent(line),
+            (None, None) => return Parting::Ended(agreed),
+        };
+        let t = beside(&device, event, board);
+        let Some(compared) = t.compared else {
+            return Parting::Unreadable(line);
+        };
+        if !compared.agrees {
+            let before = device.device();
+            print_parted(out, line, before, event, board, t.model, compared.differs);
+            return Parting::Apart;
         }
-        let t = beside(&device, n.text, m.text);
-        if !t.compared.is_some_and(|c| c.agrees) {
-            print_parted(out, agreed + 1, device.device(), n.text, m.text, &t);
-            return Stop {
-                agreed,
-                line: agreed + 1,
-                has_event: true,
-                has_answer: true,
-                readable: t.compared.is_some(),
-            };
-        }
-        let i = ready(r, &read);
-        let j = ready(s, &measured);
         let start = Abreast {
             device: t.device,
-            event: r.at,
-            board: s.at,
-            agreed: agreed + 1,
+            event: n.reader.at,
+            board: m.reader.at,
+            agreed: line,
         };
+        let i = ready(n.reader, &read);
+        let j = ready(m.reader, &measured);
         let a = onward_all(start, &read[..i], &measured[..j]);
+        r = Reader {
+            at: a.event,
+            ..n.reader
+        };
+        s = Reader {
+            at: a.board,
+            ..m.reader
+        };
         device = a.device;
-        r.at = a.event;
-        s.at = a.board;
         agreed = a.agreed;
     }
-    Stop {
-        agreed,
-        line: agreed,
-        has_event: true,
-        has_answer: true,
-        readable: false,
-    }
+    Parting::Unreadable(agreed)
 }

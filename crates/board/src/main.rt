@@ -11,7 +11,7 @@ use rules::Device;
 use std::env::FillError;
 use std::io::{Read, Write};
 use std::rt::Env;
-use streams::{BUFFER, LARGE_BUFFER, write_all};
+use streams::{BUFFER, LARGE_BUFFER};
 use texts::Text;
 
 // How many devices the bytes of an argument say: one digit from 1 to 8.
@@ -42,7 +42,7 @@ fn argument<S: Env>(system: &S) -> Option<usize> {
 // Writes what is shown of the first n devices.
 fn print_devices<W: Write>(out: &mut W, n: usize, l: [Shown; 8]) {
     for x in l.iter().take(n) {
-        console::print(out, row_lines::device_text(*x));
+        let _ = console::print(out, row_lines::device_text(*x));
     }
 }
 
@@ -51,9 +51,9 @@ fn answer<W: Write>(devices: [Device; 8], n: usize, t: Text, out: &mut W) -> Boa
     ensures { result ≡ boarded devices n (row_line t) }
 {
     let r = row_bridge::event(devices, n, row_lines::event_of_line(t));
-    console::print(out, row_lines::head_text(r.answer));
+    let _ = console::print(out, row_lines::head_text(r.answer));
     print_devices(out, n, r.answer.devices);
-    write_all(out, b"\n");
+    let _ = out.write_all(b"\n");
     r
 }
 
@@ -64,11 +64,11 @@ fn answer_all<R: Read, W: Write>(n: usize, input: &mut R, out: &mut W) {
     let mut devices = [Device::fresh(); 8];
     for _ in 0..u64::MAX {
         let m = input::next_line(r, input, &mut buf);
-        r = m.reader;
-        if !m.found {
+        let Some(line) = m.line else {
             return;
-        }
-        let a = answer(devices, n, m.text, out);
+        };
+        r = m.reader;
+        let a = answer(devices, n, line, out);
         devices = a.devices;
     }
 }
@@ -77,10 +77,7 @@ fn main(rt: HostRuntime) {
     match argument(&rt) {
         Some(n) => answer_all(n, &mut rt.stdin(), &mut rt.stdout()),
         None => {
-            write_all(
-                &mut rt.stderr(),
-                b"board: the argument is how many devices, 1 to 8\n",
-            );
+            let _ = rt.stderr().write_all(b"board: the argument is how many devices, 1 to 8\n");
         }
     }
 }

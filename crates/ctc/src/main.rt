@@ -4,5 +4,5 @@
 use ctc_rules::Ctc;
 
 fn main(rt: HostRuntime) {
-    ctc_console::run(Ctc::fresh(), &mut rt.stdin(), &mut rt.stdout());
+    let _ = ctc_console::run(Ctc::fresh(), &mut rt.stdin(), &mut rt.stdout());
 }

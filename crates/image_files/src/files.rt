@@ -296,12 +296,11 @@ pub fn keep<F: Files, W: Write>(
     ensures { sound_held d ≡ false → IsErr result }
 {
     let mut image = [0; LONGEST];
-    let code = d.save(&mut image);
-    if code != 0 {
+    if let Err(refusal) = d.save(&mut image) {
         say(
             report,
             path,
-            phrases::refusal_line(code, LONGEST as u32, LONGEST),
+            phrases::refusal_line(refusal.number(), LONGEST as u32, LONGEST),
         );
         return Err(Reported);
     }

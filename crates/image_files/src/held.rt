@@ -1,11 +1,11 @@
 // A device of an image file: a Z8036, a Z8536 or a CTC.
-ghost use Rattle.std.specs.Prelude.{◌≡◌, ◌≤◌, false, ◌≢◌};
+ghost use Rattle.std.specs.Prelude.{◌≡◌, ◌≤◌, false, IsErr};
 ghost use Rattle.image_files.specs.Files.{sound_held};
 
 use chip::Chip;
 use console::print;
 use ctc_rules::Ctc;
-use rules::Device;
+use rules::{Device, Refusal};
 use std::io;
 use std::io::{Read, Write};
 use z8536::Z8536;
@@ -38,9 +38,10 @@ impl Held {
         }
     }
 
-    // Saves the device into the first bytes of a buffer, as many as its image has; 0, or the code of a refusal.
-    pub(crate) fn save(self, image: &mut [u8]) -> u8
-        ensures { sound_held self ≡ false → result ≢ 0 }
+    // Saves the device into the first bytes of a buffer, as many as its image has.
+    #[tactic(auto, unfolding(rules::specs::Refusals::code_in), using(crate::proofs::Unsaved::saved_sound, crate::proofs::Unsaved::saved_sound_ctc))]
+    pub(crate) fn save(self, image: &mut [u8]) -> Result<(), Refusal>
+        ensures { sound_held self ≡ false → IsErr result }
     {
         match self {
             Held::Chip(d) => chip_image::save(d, image),

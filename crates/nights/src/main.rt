@@ -5,6 +5,8 @@
 
 use chip::Chip;
 use ctc_rules::Ctc;
+use image_files::Held;
+use std::io::Write;
 
 fn show(rt: &HostRuntime, path: &[u8]) {
     image_files::show(rt, path, &mut rt.stdout(), &mut rt.stdout());
@@ -19,7 +21,7 @@ fn shown(rt: &HostRuntime) {
 }
 
 fn night(rt: &HostRuntime, from: &[u8], to: &[u8], trace: &[u8]) {
-    image_files::night_of(rt, from, to, trace, &mut rt.stdout(), &mut rt.stdout());
+    let _ = image_files::night_of(rt, from, to, trace, &mut rt.stdout(), &mut rt.stdout());
 }
 
 fn refused(rt: &HostRuntime, from: &[u8], to: &[u8]) {
@@ -67,12 +69,12 @@ fn same_ctc(c: Ctc, d: Ctc) -> bool {
 fn print_same(rt: &HostRuntime, one: &[u8], other: &[u8]) {
     let a = image_files::load(rt, one, &mut rt.stdout());
     let b = image_files::load(rt, other, &mut rt.stdout());
-    let alike = (a.is_ctc == b.is_ctc) & same(a.device, b.device) & same_ctc(a.ctc, b.ctc);
-    if a.ok & b.ok & alike {
-        let _ = rt.stdout().write_all(b"same\n");
-    } else {
-        let _ = rt.stdout().write_all(b"lost\n");
-    }
+    let alike = match (a, b) {
+        (Ok(Held::Chip(c)), Ok(Held::Chip(d))) => same(c, d),
+        (Ok(Held::Ctc(c)), Ok(Held::Ctc(d))) => same_ctc(c, d),
+        _ => false,
+    };
+    let _ = rt.stdout().write_all(if alike { b"same\n" } else { b"lost\n" });
 }
 
 // A night cut in three parts, on an image file that is both IN and OUT, and the same trace uncut.

@@ -6,5 +6,5 @@ use rules::Device;
 
 fn main(rt: HostRuntime) {
     let d = Chip::from(Device::fresh());
-    console::run(d, &mut rt.stdin(), &mut rt.stdout());
+    let _ = console::run(d, &mut rt.stdin(), &mut rt.stdout());
 }

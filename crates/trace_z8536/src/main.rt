@@ -6,5 +6,5 @@ use z8536::Z8536;
 
 fn main(rt: HostRuntime) {
     let d = Chip::from(Z8536::fresh());
-    console::run(d, &mut rt.stdin(), &mut rt.stdout());
+    let _ = console::run(d, &mut rt.stdin(), &mut rt.stdout());
 }

@@ -9,7 +9,7 @@ ghost use Rattle.measure.specs.Measure.{measured_of};
 use measure::{Measure, Measured};
 use rules::Device;
 use std::io::{Read, Write};
-use streams::{LARGE_BUFFER, print_decimal, write_all};
+use streams::LARGE_BUFFER;
 use texts::Text;
 
 // Says a line to the device, and writes the answer.
@@ -17,7 +17,7 @@ fn answer<W: Write>(m: Measure, d: Device, t: Text, out: &mut W) -> Measured
     ensures { result ≡ measured_of m d (event_in (says_of t)) }
 {
     let r = measure::event(m, d, lines::event_of_line(t));
-    console::print(out, texts::answer_text(r.answer));
+    let _ = console::print(out, texts::answer_text(r.answer));
     r
 }
 
@@ -29,11 +29,11 @@ fn answer_all<R: Read, W: Write>(input: &mut R, out: &mut W) -> Measure {
     let mut d = Device::fresh();
     for _ in 0..u64::MAX {
         let n = input::next_line(r, input, &mut buf);
-        r = n.reader;
-        if !n.found {
+        let Some(line) = n.line else {
             return m;
-        }
-        let a = answer(m, d, n.text, out);
+        };
+        r = n.reader;
+        let a = answer(m, d, line, out);
         m = a.measure;
         d = a.device;
     }
@@ -41,13 +41,7 @@ fn answer_all<R: Read, W: Write>(input: &mut R, out: &mut W) -> Measure {
 }
 
 fn print_row<W: Write>(out: &mut W, row: [u64; 4]) {
-    for (i, n) in row.iter().enumerate() {
-        if 0 < i {
-            write_all(out, b" ");
-        }
-        print_decimal(out, *n);
-    }
-    write_all(out, b"\n");
+    let _ = writeln!(out, "{} {} {} {}", row[0], row[1], row[2], row[3]);
 }
 
 fn main(rt: HostRuntime) {
