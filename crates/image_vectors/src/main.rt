@@ -6,7 +6,7 @@ ghost use Rattle.std.specs.Prelude.{◌<◌};
 
 use rules::Device;
 use std::io::{Read, Write};
-use streams::{LARGE_BUFFER, print_decimal, write_all};
+use streams::LARGE_BUFFER;
 use z8536::Z8536;
 
 // The bytes of a line so far, two digits to a byte, and whether it is for the Z8536; a longer line keeps its first 128.
@@ -59,7 +59,7 @@ fn character(n: u8) -> u8
 }
 
 fn print_byte<W: Write>(out: &mut W, x: u8) {
-    write_all(out, &[character(x / 16), character(x % 16)]);
+    let _ = out.write_all(&[character(x / 16), character(x % 16)]);
 }
 
 fn print_bytes<W: Write>(out: &mut W, b: &[u8]) {
@@ -70,12 +70,12 @@ fn print_bytes<W: Write>(out: &mut W, b: &[u8]) {
 
 // A code; with 0 the image.
 fn print_code<W: Write>(out: &mut W, code: u8, image: &[u8]) {
-    print_decimal(out, code as u64);
+    let _ = write!(out, "{code}");
     if code == 0 {
-        write_all(out, b" ");
+        let _ = out.write_all(b" ");
         print_bytes(out, image);
     }
-    write_all(out, b"\n");
+    let _ = out.write_all(b"\n");
 }
 
 fn print_line<W: Write>(out: &mut W, l: Line) {
