@@ -22,11 +22,7 @@ pub struct Turn {
 }
 
 // That an input which has no more is at its end; where it cannot be read, a line says so.
-fn at_end<R: Read, E: Write>(
-    input: &mut R,
-    path: &[u8],
-    report: &mut E,
-) -> Result<(), Reported> {
+fn at_end<R: Read, E: Write>(input: &mut R, path: &[u8], report: &mut E) -> Result<(), Reported> {
     match input.read(&mut [0]) {
         Ok(_) => Ok(()),
         Err(error) => {
@@ -43,6 +39,7 @@ fn say_line<E: Write>(report: &mut E, board: &[u8], line: u64, what: &str) {
 }
 
 // From a device on: the trace of one input, and the board's answers of another. What has ended has to be read to its end.
+// Stays: trace and board go to the call that opens them and then to the line that names them; a struct of the two would be taken apart in each.
 fn agree_from<R: Read, S: Read, W: Write, E: Write>(
     d: Chip,
     events: &mut R,
@@ -73,11 +70,7 @@ fn agree_from<R: Read, S: Read, W: Write, E: Write>(
 }
 
 // Opens a file to read; where it cannot be opened, a line says so.
-fn opened<F: Files, E: Write>(
-    files: &F,
-    path: &[u8],
-    report: &mut E,
-) -> Result<F::File, Reported> {
+fn opened<F: Files, E: Write>(files: &F, path: &[u8], report: &mut E) -> Result<F::File, Reported> {
     match image_files::open_read(files, path) {
         Ok(file) => Ok(file),
         Err(error) => {
@@ -87,6 +80,7 @@ fn opened<F: Files, E: Write>(
     }
 }
 
+// Stays: trace and board go to the call that opens them and then to the line that names them; a struct of the two would be taken apart in each.
 fn agree_files<F: Files, W: Write, E: Write>(
     files: &F,
     trace: &[u8],
@@ -107,6 +101,7 @@ fn agree_files<F: Files, W: Write, E: Write>(
 
 // Whether the answers of the file BOARD are the model's to the file TRACE, from the device of an image file on: how many lines agree,
 // or the first that does not, with the device before it.
+// Stays: trace and board go to the call that opens them and then to the line that names them; a struct of the two would be taken apart in each.
 pub fn agree<F: Files, W: Write, E: Write>(
     files: &F,
     trace: &[u8],
@@ -119,6 +114,7 @@ pub fn agree<F: Files, W: Write, E: Write>(
 }
 
 // The third argument, where there is one, names the image file; else it is the fresh Z8036.
+// Stays: trace and board go to the call that opens them and then to the line that names them; a struct of the two would be taken apart in each.
 fn agree_third<S: Files + Env, W: Write, E: Write>(
     system: &S,
     trace: &[u8],

@@ -67,6 +67,7 @@ fn onward(a: Abreast, read: &[u8], measured: &[u8]) -> Abreast
 }
 
 // All lines that agree and end in what was read of both.
+// Stays: the loop ends at the first line that does not agree, and not at a count.
 fn onward_all(start: Abreast, read: &[u8], measured: &[u8]) -> Abreast
     ensures { start.agreed ≤ result.agreed }
 {
@@ -140,6 +141,7 @@ pub(crate) fn part<R: Read, S: Read, W: Write>(
     let mut s = input::start();
     let mut device = Vetted::of(d);
     let mut agreed: u64 = 0;
+    // Stays: the lines that agree are counted, by one or by many in a turn.
     while agreed < u64::MAX {
         let line = agreed + 1;
         let n = input::next_line(r, events, &mut read);

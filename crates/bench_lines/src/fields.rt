@@ -59,6 +59,7 @@ fn nibble_in(f: &[u8]) -> Option<u32>
     Some(d.into())
 }
 
+// Stays: a field goes by its place, as the definition does (bench_lines/Fields.number_at).
 #[tactic(auto, unfolding(crate::specs::Fields::number_at))]
 fn number_at(place: usize, f: &[u8]) -> Option<u32>
     ensures { number_read result ≡ number_at place f.now }

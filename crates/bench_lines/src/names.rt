@@ -6,6 +6,7 @@ ghost use Rattle.bench_lines.specs.Names.{name_of};
 use texts::Text;
 
 // The name of the field at a place.
+// Stays: a field goes by its place, as the definition does (bench_lines/Names.name_of).
 #[tactic(auto, unfolding(crate::specs::Names::name_of, texts::specs::Spelled::spelled))]
 pub fn field_name(place: usize) -> Text
     ensures { result ≡ typed no_text (name_of place) }

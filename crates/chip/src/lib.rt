@@ -12,7 +12,7 @@ pub use sure::{known, sound};
 pub use vetted::Vetted;
 use z8536::Z8536;
 
-#[derive(Clone, Copy)]
+#[derive(Clone, Copy, PartialEq, Eq)]
 pub enum Chip {
     Z8036(Device),
     Z8536(Z8536),

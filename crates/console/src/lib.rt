@@ -37,6 +37,7 @@ fn answer_piece<W: Write>(
 {
     let mut t = s;
     let mut at = 0;
+    // Stays: a turn goes on by as many bytes as had room for their answers.
     while at < piece.len() {
         let f = session::feed(t, piece, at, out);
         answers.write_all(&out[..f.len])?;

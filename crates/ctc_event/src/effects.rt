@@ -103,6 +103,7 @@ fn clocks(d: Ctc, n: u32) -> CtcEffect
     ensures { result ≡ clocks_ctc d n }
 {
     let s = run(n, d);
+    // Stays: an array of a field is copied to a name before a struct takes it, as the check asks.
     let zeros = s.zeros;
     CtcEffect {
         device: s.device,

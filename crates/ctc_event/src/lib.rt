@@ -67,11 +67,13 @@ fn unsound(device: Ctc) -> Outcome<Ctc, CtcAnswer>
 }
 
 // An answer with the lines after the event.
+// Stays: the code is a number, since the code of an answer is one (rules::Answer).
 #[tactic(auto, unfolding(ctc_rules::specs::Events::outcome_ctc, ctc_rules::specs::Interrupts::int_ctc))]
 fn outcome(code: u8, f: CtcEffect) -> Outcome<Ctc, CtcAnswer>
     ensures { result ≡ outcome_ctc code f }
 {
     let d = f.device;
+    // Stays: an array of a field is copied to a name before a struct takes it, as the check asks.
     let zeros = f.zeros;
     Outcome {
         device: d,

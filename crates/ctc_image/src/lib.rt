@@ -20,6 +20,7 @@ pub(crate) const TABLE: [u8; 10] = [0x11, 2, 1, 0, 10, 28, 2, 0, 38, 3];
 
 // Saves a record into the first 41 bytes of a buffer. Codes: 9 for a record that is not sound, 7 for a buffer that is shorter, else 0.
 // A refused save leaves the buffer as it was.
+// Stays: the twin in `image` has the same two tests, of another record and another length; one for both would take five arguments.
 #[tactic(auto, unfolding(rules::specs::Refusals::code_in, rules::specs::Refusals::refusal_number))]
 pub fn save(d: Ctc, buf: &mut [u8]) -> Result<(), Refusal>
     ensures { (code_in result ≡ save_code_ctc d (length buf.old)) × (buf.new ≡ saved_ctc d buf.old) }
@@ -64,6 +65,7 @@ fn read(s: &[u8]) -> Result<Ctc, Refusal>
 
 // Restores the record of an image. Codes: 7 for an image shorter than its table, 8 for another table, 7 for another length, 9 for bodies
 // that are not sound, else 0. A refused restore gives the fresh device.
+// Stays: the twin in `image` is one call too, of `Restored::of`, which both share.
 pub fn restore(s: &[u8]) -> Restored<Ctc>
     ensures { result ≡ restored_ctc s.now }
 {

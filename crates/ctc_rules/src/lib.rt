@@ -8,6 +8,7 @@ ghost use Rattle.ctc_rules.specs.Sound.{sound_channel, sound_ctc};
 
 // One of the four channels. `control` keeps D7-D3 of its control word; `loaded` says that it has a constant, `awaits` that the next word
 // written to it is one. The default is as a reset leaves it.
+// Stays: `loaded` is a flag beside `constant`, since the record is docs/CTC.md's: `sound_channel` and the image's bodies name both.
 #[derive(Clone, Copy, Default, PartialEq, Eq)]
 pub struct Channel {
     pub control: u8,
@@ -78,6 +79,7 @@ pub struct CtcEffect {
 }
 
 // The answer to an event, and to the end of service.
+// Stays: `code` is a number, as that of a Z8036's answer is (rules::Answer).
 #[derive(Clone, Copy, Default, PartialEq, Eq)]
 pub struct CtcAnswer {
     pub code: u8,

@@ -61,6 +61,7 @@ fn waits(t: Text, c: Channel) -> Text
 }
 
 // A fact of a channel.
+// Stays: what is shown goes by a number, as the definition does (ctc_words/Shown.channel_cell), and whoever prints counts it up.
 #[tactic(auto, unfolding(crate::specs::Shown::channel_cell, crate::specs::Shown::kind_cell, texts::specs::Spelled::spelled, crate::specs::Shown::factor_cell, crate::specs::Shown::edge_cell, crate::specs::Shown::start_cell, crate::specs::Shown::on_cell))]
 pub(crate) fn channel(t: Text, c: Channel, row: usize) -> Text
     ensures { result ≡ typed t (channel_cell c row) }

@@ -37,6 +37,7 @@ fn device_line(d: Ctc) -> Text
 }
 
 // Line n of a device, with its line feed.
+// Stays: what is shown goes by a number, as the definition does (ctc_words/Shown.shown_ctc), and whoever prints counts it up.
 #[tactic(auto, unfolding(crate::specs::Shown::shown_ctc, texts::specs::Spelled::spelled))]
 pub fn line(d: Ctc, n: usize) -> Text
     ensures { result ≡ typed no_text (shown_ctc d n) }

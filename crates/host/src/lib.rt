@@ -47,6 +47,7 @@ pub fn wolfscarer_z8036_fresh(state: &mut [u8]) -> u8
 
 // An event of a Z8036, in place. Codes: the state's 7, 8, 7, 9, then 7 for an answer buffer that is too short, with neither buffer
 // written; else the event's.
+// Stays: C hands over the kind and three numbers, and this call has its name and its arguments (hosts/wolfscarer.h).
 #[tactic(auto, unfolding(crate::specs::Calls::hosted, crate::specs::Calls::host_event))]
 pub fn wolfscarer_z8036_event(
     state: &mut [u8],
@@ -77,6 +78,7 @@ pub fn wolfscarer_z8536_fresh(state: &mut [u8]) -> u8
 }
 
 // An event of a Z8536.
+// Stays: C hands over the kind and three numbers, and this call has its name and its arguments (hosts/wolfscarer.h).
 #[tactic(auto, unfolding(crate::specs::Calls::hosted, crate::specs::Calls::host_event_z8536))]
 pub fn wolfscarer_z8536_event(
     state: &mut [u8],
@@ -107,6 +109,7 @@ pub fn wolfscarer_ctc_fresh(state: &mut [u8]) -> u8
 }
 
 // An event of a CTC.
+// Stays: C hands over the kind and three numbers, and this call has its name and its arguments (hosts/wolfscarer.h).
 #[tactic(auto, unfolding(crate::specs::Calls::hosted, crate::specs::Calls::host_ctc))]
 pub fn wolfscarer_ctc_event(
     state: &mut [u8],

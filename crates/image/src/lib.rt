@@ -78,6 +78,7 @@ pub(crate) fn write_by(contents: &[u8], d: Device, buf: &mut [u8])
 
 // Saves a record into the first bytes of a buffer, 84 of version 1, 96 of version 2. Codes: 9 for a record that is not sound, 7
 // for a buffer that is shorter, else 0. A refused save leaves the buffer as it was.
+// Stays: the twin in `ctc_image` has the same two tests, of another record and another length; one for both would take five arguments.
 #[tactic(auto, unfolding(rules::specs::Refusals::code_in, rules::specs::Refusals::refusal_number))]
 pub fn save(d: Device, buf: &mut [u8]) -> Result<(), Refusal>
     ensures { (code_in result ≡ save_code d (length buf.old)) × (buf.new ≡ saved_of d buf.old) }
@@ -159,6 +160,7 @@ fn read(s: &[u8]) -> Result<Device, Refusal>
 
 // Restores the record of an image of version 1 or 2. Codes: 7 for an image shorter than its version's contents, 8 for other contents,
 // 7 for another length, 9 for bodies that are not sound, else 0. A refused restore gives the fresh device.
+// Stays: the twin in `ctc_image` is one call too, of `Restored::of`, which both share.
 pub fn restore(s: &[u8]) -> Restored<Device>
     ensures { result ≡ restored_of s.now }
 {

@@ -258,6 +258,7 @@ fn name_out<F: Files>(files: &F, path: &[u8]) -> io::Result<()> {
 }
 
 // Gives a file another name.
+// Stays: a name to read from and one to write to, as the program has them (IN, OUT); a rename has two names as well.
 fn rename<F: Files>(files: &F, from: &[u8], to: &[u8]) -> io::Result<()> {
     fs::rename(files, name_of(from)?, name_of(to)?)
 }

@@ -10,7 +10,7 @@ use std::io;
 use std::io::{Read, Write};
 use z8536::Z8536;
 
-#[derive(Clone, Copy)]
+#[derive(Clone, Copy, PartialEq, Eq)]
 pub enum Held {
     Chip(Chip),
     Ctc(Ctc),

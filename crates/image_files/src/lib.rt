@@ -20,6 +20,7 @@ pub fn show<F: Files, W: Write, E: Write>(files: &F, path: &[u8], out: &mut W, r
 
 // Restores the device of one image file, runs the trace of an input on it, and saves the device to another image
 // file, which may be the same.
+// Stays: a name to read from and one to write to, as the program has them (IN, OUT); a rename has two names as well.
 pub fn night<F: Files, R: Read, W: Write, E: Write>(
     files: &F,
     from: &[u8],
@@ -68,6 +69,7 @@ pub fn night_arguments<S: Files + Env, R: Read, W: Write, E: Write>(
 }
 
 // A night whose trace is a file.
+// Stays: a name to read from and one to write to, as the program has them (IN, OUT); a rename has two names as well.
 pub fn night_of<F: Files, W: Write, E: Write>(
     files: &F,
     from: &[u8],

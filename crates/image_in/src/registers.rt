@@ -97,7 +97,7 @@ pub(crate) fn read_registers(version: u8, b: &[u8]) -> Device
     ensures { result ≡ registers_in version b.now }
 {
     Device {
-        version: version,
+        version,
         master: basics::byte_at(b, 0x00),
         config: basics::byte_at(b, 0x01),
         vectors: [

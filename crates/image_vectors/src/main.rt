@@ -10,6 +10,7 @@ use streams::LARGE_BUFFER;
 use z8536::Z8536;
 
 // The bytes of a line so far, two digits to a byte, and whether it is for the Z8536; a longer line keeps its first 128.
+// Stays: `z8536` says to which restore the bytes go; they count either way.
 #[derive(Clone, Copy)]
 struct Line {
     bytes: [u8; 128],
@@ -69,6 +70,7 @@ fn print_bytes<W: Write>(out: &mut W, b: &[u8]) {
 }
 
 // A code; with 0 the image.
+// Stays: the code is a number, since the file that the gate compares has it so.
 fn print_code<W: Write>(out: &mut W, code: u8, image: &[u8]) {
     let _ = write!(out, "{code}");
     if code == 0 {

@@ -9,6 +9,7 @@ use std::io::Read;
 use texts::Text;
 
 // What is kept of a line that has not ended, and which bytes of the buffer are still to come: from one place to another.
+// Stays: places in the caller's buffer, which is read into again; a slice of it cannot be kept meanwhile.
 #[derive(Clone, Copy)]
 pub struct Reader {
     pub text: Text,

@@ -43,6 +43,7 @@ fn counted(of: [u8; CODES], b: u8) -> [u8; CODES] {
     n
 }
 
+// Stays: the kind is a number, as an event's is (rules::Event).
 fn ask(d: Device, kind: u32, a: u32, b: u32, c: u32) -> Outcome<Device> {
     event::event(d, Event { kind, a, b, c })
 }

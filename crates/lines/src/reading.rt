@@ -9,6 +9,7 @@ use texts::Text;
 pub const MOST: usize = 80;
 
 // What an unreadable line is answered as: a kind above 6.
+// Stays: 7 is a kind above 6, as a line is answered that is none (lines/Lines.event_in).
 pub const UNREADABLE: Event = Event {
     kind: 7,
     a: 0,
@@ -16,6 +17,7 @@ pub const UNREADABLE: Event = Event {
     c: 0,
 };
 
+// Stays: the kind is a number, as an event's is (rules::Event), and so are the three.
 fn said(kind: u32, a: u8, b: u8, c: u8) -> Option<Event>
     ensures { result ≡ said_of kind a b c }
 {

@@ -36,12 +36,15 @@ pub struct Moves {
 }
 
 // Whether two are the same, their terminals apart.
+// Stays: all but one field is compared, so the derived == has that field set first.
 #[tactic(auto, unfolding(crate::specs::Chase::with_terminals))]
 fn came_back(x: Pair, y: Pair) -> bool
     ensures { result ≡ true → with_terminals x y.terminals ≡ y }
 {
-    let terminals = y.terminals;
-    Pair { terminals, ..x } == y
+    Pair {
+        terminals: y.terminals,
+        ..x
+    } == y
 }
 
 // Whether a counter has moved and may go on.
@@ -129,6 +132,7 @@ fn leapt(f: Stage, x: Pair, left: u32) -> Leap
 }
 
 // One leap.
+// Stays: `Holds` ties a run to the Stage that it runs on, and no field of a Chase has that.
 fn advanced(f: Stage, c: Chase) -> Chase
     requires { Holds f c × (0 < c.left) }
     ensures { Follows f c result × (result.left < c.left) × (0 < result.since) }
@@ -143,6 +147,7 @@ fn advanced(f: Stage, c: Chase) -> Chase
 }
 
 // The pair has come back: all whole rounds that are left.
+// Stays: `Holds` ties a run to the Stage that it runs on, and no field of a Chase has that.
 #[tactic(auto, unfolding(crate::specs::Chase::with_terminals))]
 fn skipped(f: Stage, c: Chase) -> Chase
     requires { Holds f c × (0 < c.since) × (with_terminals c.now c.anchor.terminals ≡ c.anchor) }
@@ -164,6 +169,7 @@ fn skipped(f: Stage, c: Chase) -> Chase
 }
 
 // The present is the anchor, for twice as many leaps.
+// Stays: `Holds` ties a run to the Stage that it runs on, and no field of a Chase has that.
 fn renewed(f: Stage, c: Chase) -> Chase
     requires { Holds f c }
     ensures { Follows f c result }
@@ -178,6 +184,7 @@ fn renewed(f: Stage, c: Chase) -> Chase
 }
 
 // The rounds that are left, where the pair has come back; else the same moment, perhaps as the anchor.
+// Stays: `Holds` ties a run to the Stage that it runs on, and no field of a Chase has that.
 fn turned(f: Stage, c: Chase) -> Chase
     requires { Holds f c × (0 < c.since) }
     ensures { Follows f c result }

@@ -20,19 +20,20 @@ fn clears(e: Event, command: u32) -> bool
 }
 
 // Whether it reads or writes the data of port p, which clears IP: with ITB the second of a pair.
-fn clears_by_data(d: Device, e: Event, p: usize) -> bool
-    requires { p < 2 }
+fn clears_by_data(d: Device, e: Event, p: Place<2>) -> bool
     ensures { result ≡ clears_by_data d e p }
 {
-    let q = d.patterns[p];
-    let t = d.transfers[p];
+    let i = p.index();
+    let q = d.patterns[i];
+    let t = d.transfers[i];
     let itb = q.mode / 32 % 2 == 1;
     let reads = (e.kind == Event::R) & ports::inputs(q);
-    let writes = (e.kind == Event::W) & ports::outputs(q) & levels::port_enabled(d, p);
-    (reads | writes) & (e.a == 0x0D + (p as u32)) & (!itb | t.pair)
+    let writes = (e.kind == Event::W) & ports::outputs(q) & levels::port_enabled(d, i);
+    (reads | writes) & (e.a == 0x0D + (i as u32)) & (!itb | t.pair)
 }
 
 // Source k in a step from d to f.
+// Stays: from d to f, by the measure m, as the definitions take them (measure/Measure.stepped, measure/Measure.ticked).
 fn stepped_at(k: Place<5>, cleared: bool, d: Device, f: Device, m: Measure) -> Wait
     ensures { result ≡ moved_of (source_at d k).ip cleared (source_at f k).ip m.clocks (wait_at m k) }
 {
@@ -47,6 +48,7 @@ fn stepped_at(k: Place<5>, cleared: bool, d: Device, f: Device, m: Measure) -> W
 }
 
 // A step, or what is no clock and no K, from d to f.
+// Stays: from d to f, by the measure m, as the definitions take them (measure/Measure.stepped, measure/Measure.ticked).
 #[tactic(auto, unfolding(crate::specs::Measure::stepped))]
 pub(crate) fn stepped(e: Event, d: Device, f: Device, m: Measure) -> Measure
     ensures { result ≡ stepped_of (clears_of d e) d f m }
@@ -56,7 +58,7 @@ pub(crate) fn stepped(e: Event, d: Device, f: Device, m: Measure) -> Measure
             stepped_at(Place { at: Source::CT3 }, clears(e, 0x0C), d, f, m),
             stepped_at(
                 Place { at: Source::A },
-                clears(e, 0x08) | clears_by_data(d, e, 0),
+                clears(e, 0x08) | clears_by_data(d, e, Place { at: 0 }),
                 d,
                 f,
                 m,
@@ -64,7 +66,7 @@ pub(crate) fn stepped(e: Event, d: Device, f: Device, m: Measure) -> Measure
             stepped_at(Place { at: Source::CT2 }, clears(e, 0x0B), d, f, m),
             stepped_at(
                 Place { at: Source::B },
-                clears(e, 0x09) | clears_by_data(d, e, 1),
+                clears(e, 0x09) | clears_by_data(d, e, Place { at: 1 }),
                 d,
                 f,
                 m,
@@ -76,6 +78,7 @@ pub(crate) fn stepped(e: Event, d: Device, f: Device, m: Measure) -> Measure
 }
 
 // Source k over the n clocks of a T, from d to f.
+// Stays: from d to f, by the measure m, as the definitions take them (measure/Measure.stepped, measure/Measure.ticked).
 #[tactic(auto, unfolding(rules::specs::Interrupts::relined))]
 fn over(k: Place<5>, n: u32, d: Device, f: Device, m: Measure) -> Wait
     requires { (0 < n) × (f ≡ relined (ran_of n d).device) × (m.clocks + n ≤ most_clocks) }
@@ -94,6 +97,7 @@ fn over(k: Place<5>, n: u32, d: Device, f: Device, m: Measure) -> Wait
 }
 
 // T n, from d to f.
+// Stays: from d to f, by the measure m, as the definitions take them (measure/Measure.stepped, measure/Measure.ticked).
 #[tactic(auto, unfolding(crate::specs::Measure::ticked))]
 pub(crate) fn ticked(n: u32, d: Device, f: Device, m: Measure) -> Measure
     requires { (f ≡ relined (ran_of n d).device) × (m.clocks + n ≤ most_clocks) }

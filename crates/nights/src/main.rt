@@ -3,9 +3,6 @@
 // handshake, one of a Z8536, one of a CTC, and one between long runs by division, and by leaps and rounds.
 #![tactic(auto)]
 
-use chip::Chip;
-use ctc_rules::Ctc;
-use image_files::Held;
 use std::io::Write;
 
 fn show(rt: &HostRuntime, path: &[u8]) {
@@ -47,34 +44,14 @@ fn refusals(rt: &HostRuntime) {
     refused(rt, b"kept", b"kept");
 }
 
-fn same(c: Chip, d: Chip) -> bool {
-    match (c, d) {
-        (Chip::Z8036(a), Chip::Z8036(b)) => record::same(a, b),
-        (Chip::Z8536(a), Chip::Z8536(b)) => {
-            (a.pointer == b.pointer) & (a.pointed == b.pointed) & record::same(a.core, b.core)
-        }
-        _ => false,
-    }
-}
-
-fn same_ctc(c: Ctc, d: Ctc) -> bool {
-    let mut a = [0u8; Ctc::IMAGE];
-    let mut b = [0u8; Ctc::IMAGE];
-    let _ = ctc_image::save(c, &mut a);
-    let _ = ctc_image::save(d, &mut b);
-    image::same_bytes(&a, &b)
-}
-
 // Whether two image files hold the same device.
 fn print_same(rt: &HostRuntime, one: &[u8], other: &[u8]) {
     let a = image_files::load(rt, one, &mut rt.stdout());
     let b = image_files::load(rt, other, &mut rt.stdout());
-    let alike = match (a, b) {
-        (Ok(Held::Chip(c)), Ok(Held::Chip(d))) => same(c, d),
-        (Ok(Held::Ctc(c)), Ok(Held::Ctc(d))) => same_ctc(c, d),
-        _ => false,
-    };
-    let _ = rt.stdout().write_all(if alike { b"same\n" } else { b"lost\n" });
+    let alike = matches!((a, b), (Ok(c), Ok(d)) if c == d);
+    let _ = rt
+        .stdout()
+        .write_all(if alike { b"same\n" } else { b"lost\n" });
 }
 
 // A night cut in three parts, on an image file that is both IN and OUT, and the same trace uncut.

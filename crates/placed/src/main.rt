@@ -95,20 +95,14 @@ fn step<W: Write>(out: &mut W, p: Pair, i: usize) -> Pair {
         b: row[2],
         c: row[3],
     };
-    let d = p.placed;
-    let f = p.handed;
-    let o = bridge::through(d, e);
-    let h = event::event(f, e);
-    let a = o.answer;
-    let b = h.answer;
-    let _ = console::print(out, texts::answer_text(a));
-    let _ = console::print(out, texts::answer_text(b));
-    let x = o.device;
-    let y = h.device;
-    print_same(out, x, y);
+    let placed = bridge::through(p.placed, e);
+    let handed = event::event(p.handed, e);
+    let _ = console::print(out, texts::answer_text(placed.answer));
+    let _ = console::print(out, texts::answer_text(handed.answer));
+    print_same(out, placed.device, handed.device);
     Pair {
-        placed: x,
-        handed: y,
+        placed: placed.device,
+        handed: handed.device,
     }
 }
 

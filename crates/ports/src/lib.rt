@@ -34,6 +34,7 @@ pub fn on(p: Pattern) -> u8
 }
 
 // The bits whose condition holds.
+// Stays: what a pattern saw before and after, as the definitions take them; a struct of two bytes would be made here and there and taken apart again.
 #[tactic(auto, unfolding(rules::specs::Patterns::hit_at))]
 pub fn hits(p: Pattern, before: u8, after: u8) -> u8
     ensures { result ≡ byte_of (hit_at p before after) }

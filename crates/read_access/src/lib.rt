@@ -9,17 +9,18 @@ ghost use Rattle.rules.specs.Counters.{thawed, shown};
 ghost use Rattle.rules.specs.Access.{port_command, counter_command, read_of, reads_byte, after_read};
 ghost use Rattle.registers.specs.Place.{place, places};
 
+use basics::Place;
 use rules::{Counter, Device, Kind, Source};
 
 #[tactic(auto, unfolding(rules::specs::Access::port_command))]
-fn port_command(d: Device, p: usize) -> u8
-    requires { p < 2 }
+fn port_command(d: Device, p: Place<2>) -> u8
     ensures { result ≡ port_command d p }
 {
-    let q = d.patterns[p];
-    let t = d.transfers[p];
+    let i = p.index();
+    let q = d.patterns[i];
+    let t = d.transfers[i];
     sources::port_command(
-        d.sources[Source::of_port(p)],
+        d.sources[Source::of_port(i)],
         q,
         ports::ore(q, t),
         ports::irf(q, t),
@@ -27,11 +28,11 @@ fn port_command(d: Device, p: usize) -> u8
 }
 
 #[tactic(auto, unfolding(rules::specs::Access::counter_command))]
-fn counter_command(d: Device, i: usize) -> u8
-    requires { i < 3 }
+fn counter_command(d: Device, i: Place<3>) -> u8
     ensures { result ≡ counter_command d i }
 {
-    sources::counter_command(d.sources[Source::of_counter(i)], d.counters[i])
+    let n = i.index();
+    sources::counter_command(d.sources[Source::of_counter(n)], d.counters[n])
 }
 
 // The count as it reads.
@@ -42,7 +43,6 @@ fn show(c: Counter) -> u16
     if c.rcc { c.frozen } else { c.count }
 }
 
-// Stays: a Kind carries plain numbers, so a place in range would be made again in every arm that calls one of the functions above.
 #[tactic(auto, unfolding(rules::specs::Access::read_of))]
 fn read_kind(d: Device, k: Kind) -> u8
     requires { place k < places k }
@@ -55,8 +55,8 @@ fn read_kind(d: Device, k: Kind) -> u8
         Kind::Polarity(p) => d.ports[p].polarity,
         Kind::Direction(p) => d.ports[p].direction,
         Kind::Special(p) => d.ports[p].special,
-        Kind::PortCommand(p) => port_command(d, p),
-        Kind::CounterCommand(i) => counter_command(d, i),
+        Kind::PortCommand(p) => port_command(d, Place { at: p }),
+        Kind::CounterCommand(i) => counter_command(d, Place { at: i }),
         Kind::Data(p) => levels::data_at(d, p),
         Kind::Current(i, high) => basics::byte_in(high, show(d.counters[i])),
         Kind::Constant(i, high) => basics::byte_in(high, d.counters[i].constant),
@@ -80,13 +80,13 @@ pub fn read(d: Device, address: u32) -> u8
 
 // What the read of a low byte leaves of counter i.
 #[tactic(auto, unfolding(rules::specs::Counters::thawed))]
-fn thaw(d: Device, i: usize) -> Device
-    requires { i < 3 }
+fn thaw(d: Device, i: Place<3>) -> Device
     ensures { result ≡ with_counter d i (thawed (counter_at d i)) }
 {
+    let n = i.index();
     let mut e = d;
-    e.counters[i].rcc = false;
-    e.counters[i].frozen = 0;
+    e.counters[n].rcc = false;
+    e.counters[n].frozen = 0;
     e
 }
 
@@ -108,7 +108,12 @@ pub fn after_read(d: Device, address: u32) -> Device
 {
     let low_byte = (0x10 <= address) & (address <= 0x15) & (address % 2 == 1);
     if low_byte {
-        return thaw(d, ((address - 0x10) / 2) as usize);
+        return thaw(
+            d,
+            Place {
+                at: ((address - 0x10) / 2) as usize,
+            },
+        );
     }
     if reads_byte(d, address) {
         return moves::given(d, (address - 0x0D) as usize);

@@ -6,6 +6,7 @@ ghost use Rattle.rules.specs.Sound.{four_bits, later_port, no_later, sound_sourc
 ghost use Rattle.rules.specs.Sound.{reset_only, sound_sources, sound_counters, sound_ports, sound_patterns, sound_transfers, sound_version, sound_but_lines, sound_lines, sound_of};
 
 use crate::settings;
+use basics::Place;
 use rules::{Counter, Device, Pattern, Port, Source, Transfer};
 
 #[tactic(auto, unfolding(rules::specs::Sound::sound_source, rules::specs::Sound::err_only, rules::specs::Sound::hidden_only))]
@@ -29,18 +30,20 @@ fn sound_counter(version: u8, enabled: bool, c: Counter) -> bool
     (!c.cip | enabled) & (!c.half | c.cip) & (c.rcc | (c.frozen == 0)) & pulse
 }
 
-fn sound_counter_at(d: Device, i: usize) -> bool
-    requires { i < 3 }
+fn sound_counter_at(d: Device, i: Place<3>) -> bool
     ensures { result ≡ sound_counter d.version (counter_enabled d i) (counter_at d i) }
 {
-    sound_counter(d.version, levels::counter_on(d.config, i), d.counters[i])
+    let n = i.index();
+    sound_counter(d.version, levels::counter_on(d.config, n), d.counters[n])
 }
 
 #[tactic(auto, unfolding(rules::specs::Sound::sound_counters))]
 fn sound_counters(d: Device) -> bool
     ensures { result ≡ sound_counters d }
 {
-    sound_counter_at(d, 0) & sound_counter_at(d, 1) & sound_counter_at(d, 2)
+    sound_counter_at(d, Place { at: 0 })
+        & sound_counter_at(d, Place { at: 1 })
+        & sound_counter_at(d, Place { at: 2 })
 }
 
 #[tactic(auto, unfolding(rules::specs::Sound::four_bits))]
@@ -56,6 +59,7 @@ fn four_bits(q: Port) -> bool
 }
 
 // A catcher only where a bit has one, and set where the path value is 1.
+// Stays: a port, its enable and its path value, as the definition takes them; the port alone is a struct.
 #[tactic(auto, unfolding(rules::specs::Sound::sound_port, rules::specs::Sound::catcher_only, rules::specs::Sound::catcher_set))]
 fn sound_port(enabled: bool, q: Port, path: u8) -> bool
     ensures { result ≡ sound_port enabled q path }
@@ -119,16 +123,16 @@ fn sound_transfer(enabled: bool, output: u8, q: Pattern, s: Source, t: Transfer)
 }
 
 #[tactic(auto, unfolding(rules::specs::Sound::sound_transfer_at))]
-fn sound_transfer_at(d: Device, p: usize) -> bool
-    requires { p < 2 }
+fn sound_transfer_at(d: Device, p: Place<2>) -> bool
     ensures { result ≡ sound_transfer_at d p }
 {
+    let i = p.index();
     sound_transfer(
-        levels::port_enabled(d, p),
-        d.ports[p].output,
-        d.patterns[p],
-        d.sources[Source::of_port(p)],
-        d.transfers[p],
+        levels::port_enabled(d, i),
+        d.ports[i].output,
+        d.patterns[i],
+        d.sources[Source::of_port(i)],
+        d.transfers[i],
     )
 }
 
@@ -136,7 +140,7 @@ fn sound_transfer_at(d: Device, p: usize) -> bool
 fn sound_transfers(d: Device) -> bool
     ensures { result ≡ sound_transfers d }
 {
-    sound_transfer_at(d, 0) & sound_transfer_at(d, 1)
+    sound_transfer_at(d, Place { at: 0 }) & sound_transfer_at(d, Place { at: 1 })
 }
 
 fn later_port(version: u8, q: Pattern) -> bool

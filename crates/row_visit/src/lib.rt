@@ -13,6 +13,7 @@ use rules::Device;
 // What goes along the row. The second pass acts on the devices, or not, and shows them in the answer, or not; the first does neither.
 // `to` is how many devices come before the one that is named, `found` whether the one reached has come by, `place` how many have come
 // by, of more than eight 9; `high` is the IEO of the one before, and `sound` tells of those that have come by.
+// Stays: `found` tells of a device and not of a field beside it.
 #[derive(Clone, Copy)]
 pub struct Pass {
     pub event: RowEvent,

@@ -19,6 +19,7 @@ fn to_of(e: RowEvent) -> u32
 }
 
 // An answer of which only the code is known.
+// Stays: the code is a number, as that of a row's answer is (rows::RowAnswer).
 #[tactic(auto, unfolding(rows::specs::Rows::eight_of))]
 fn dark_answer(code: u8) -> RowAnswer
     ensures { result ≡ dark_answer code }
@@ -31,6 +32,7 @@ fn dark_answer(code: u8) -> RowAnswer
 }
 
 // A pass before the first device.
+// Stays: the code is a number, as that of a row's answer is (rows::RowAnswer).
 #[tactic(auto, unfolding(crate::specs::Visits::pass_begun))]
 pub(crate) fn begin(event: RowEvent, acts: bool, shows: bool, code: u8) -> Pass
     ensures { result ≡ pass_begun event acts shows code }
@@ -100,6 +102,7 @@ fn follows(d: Device, s: Pass) -> bool
 }
 
 // The code of the device that the event reaches.
+// Stays: the code is a number, as that of a row's answer is (rows::RowAnswer).
 #[tactic(auto, unfolding(crate::specs::Visits::code_seen))]
 fn code_seen(hit: bool, d: Device, s: Pass) -> u8
     ensures { result ≡ code_seen hit d s }

@@ -26,6 +26,7 @@ pub struct Shown {
 }
 
 // The answer to an event of a row: one code and value, and each device. Places past the end of the row are all 0.
+// Stays: `code` is a number, as that of one device's answer is (rules::Answer).
 #[derive(Clone, Copy, PartialEq, Eq)]
 pub struct RowAnswer {
     pub code: u8,

@@ -19,6 +19,7 @@ pub struct Session {
 }
 
 // A session after some bytes of a piece: the place after them, and how long the answers in the buffer are.
+// Stays: `len` counts bytes of the caller's buffer, which a call lends and takes back.
 #[derive(Clone, Copy)]
 pub struct Fed {
     pub session: Session,
@@ -27,6 +28,7 @@ pub struct Fed {
 }
 
 // A device after a line, and where its answer ends in the buffer.
+// Stays: `len` counts bytes of the caller's buffer, which a call lends and takes back.
 #[derive(Clone, Copy)]
 pub struct Told {
     pub device: Chip,
@@ -113,6 +115,7 @@ pub fn feed(s: Session, piece: &[u8], at: usize, out: &mut [u8]) -> Fed
         next: at,
         len: 0,
     };
+    // Stays: a turn goes on by a line, however long, and ends where an answer might find no room.
     while (f.next < piece.len()) & (f.len + texts::ROOM <= out.len()) {
         f = take_line(f, piece, out);
     }

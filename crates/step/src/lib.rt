@@ -141,6 +141,7 @@ fn ct1_output(d: Device) -> bool
     counters::output(d.version, d.counters[0])
 }
 
+// Stays: a port, its enable and its path value, as the definition takes them; the port alone is a struct.
 #[tactic(auto, unfolding(rules::specs::PortData::caught_of))]
 fn caught(enabled: bool, q: Port, path: u8) -> u8
     ensures { result ≡ caught_of enabled q path }
@@ -181,6 +182,7 @@ pub fn catch_all(d: Device) -> Device
 }
 
 // Whether the pattern p of a port matches, by what it saw before and after.
+// Stays: what a pattern saw before and after, as the definitions take them; a struct of two bytes would be made here and there and taken apart again.
 #[tactic(auto, unfolding(rules::specs::Patterns::match_of))]
 pub fn matches(enabled: bool, p: Pattern, before: u8, after: u8) -> bool
     ensures { result ≡ match_of enabled p before after }

@@ -4,6 +4,7 @@ ghost use Rattle.rules.specs.Patterns.{and_match, or_match};
 
 use rules::Pattern;
 
+// Stays: what a pattern saw before and after, as the definitions take them; a struct of two bytes would be made here and there and taken apart again.
 #[tactic(auto, unfolding(rules::specs::Patterns::and_match))]
 pub(crate) fn and_match(p: Pattern, before: u8, after: u8) -> bool
     ensures { result ≡ and_match p before after }
@@ -13,6 +14,7 @@ pub(crate) fn and_match(p: Pattern, before: u8, after: u8) -> bool
     (o != 0) & (o & (h ^ 255) == 0)
 }
 
+// Stays: what a pattern saw before and after, as the definitions take them; a struct of two bytes would be made here and there and taken apart again.
 #[tactic(auto, unfolding(rules::specs::Patterns::or_match), using(basics::proofs::Laws::nonzero))]
 pub(crate) fn or_match(p: Pattern, before: u8, after: u8) -> bool
     ensures { result ≡ or_match p before after }

@@ -26,6 +26,7 @@ pub fn read_full<R: Read>(input: &mut R, buf: &mut [u8]) -> usize
     ensures { IsPrefixLen result buf.new }
 {
     let mut done = 0;
+    // Stays: a turn goes on by as many bytes as were read.
     while done < buf.len() {
         let n = read(input, &mut buf[done..]);
         if n == 0 {

@@ -77,6 +77,7 @@ fn frozen_cell(t: Text, rcc: bool, n: u16) -> Text
     t.word(b"           -")
 }
 
+// Stays: what is shown goes by a number, as the definition does (words/Shown.counter_cell), and whoever prints counts it up.
 #[tactic(auto, unfolding(crate::specs::Shown::counter_cell, crate::specs::Shown::again_cell, texts::specs::Spelled::spelled, crate::specs::Shown::counts_cell, crate::specs::Shown::half_cell))]
 fn counter_cell(t: Text, version: u8, enabled: bool, c: Counter, row: usize) -> Text
     ensures { result ≡ typed t (counter_cell version enabled c row) }

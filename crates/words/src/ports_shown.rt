@@ -32,6 +32,7 @@ const PORT_LABELS: [[u8; 16]; PORT_ROWS] = [
     *b"catchers        ",
 ];
 
+// Stays: what is shown goes by a number, as the definition does (words/Shown.port_cell), and whoever prints counts it up.
 #[tactic(auto, unfolding(crate::specs::Shown::port_cell))]
 fn port_cell(t: Text, d: Device, p: Place<3>, row: usize) -> Text
     ensures { result ≡ typed t (port_cell d p row) }
@@ -94,6 +95,7 @@ fn pattern_mode(t: Text, d: Device, p: Place<2>) -> Text
     }
 }
 
+// Stays: what is shown goes by a number, as the definition does (words/Shown.pattern_cell), and whoever prints counts it up.
 #[tactic(auto, unfolding(crate::specs::Shown::pattern_cell))]
 fn pattern_cell(t: Text, d: Device, p: Place<2>, row: usize) -> Text
     ensures { result ≡ typed t (pattern_cell d p row) }
@@ -127,6 +129,7 @@ const TRANSFER_LABELS: [[u8; 16]; TRANSFER_ROWS] = [
     *b"  pair half done",
 ];
 
+// Stays: what is shown goes by a number, as the definition does (words/Shown.transfer_cell), and whoever prints counts it up.
 #[tactic(auto, unfolding(crate::specs::Shown::transfer_cell))]
 fn transfer_cell(t: Text, h: Transfer, row: usize) -> Text
     ensures { result ≡ typed t (transfer_cell h row) }

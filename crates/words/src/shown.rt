@@ -34,6 +34,7 @@ const TAIL: usize = SOURCES + SOURCE_ROWS;
 pub const LINES: usize = TAIL + 3;
 
 // The lines above the ports' columns.
+// Stays: what is shown goes by a number, as the definition does (words/Shown.head_line), and whoever prints counts it up.
 #[tactic(auto, unfolding(crate::specs::Shown::head_line, texts::specs::Spelled::spelled))]
 fn head_line(d: Device, n: usize) -> Text
     ensures { result ≡ typed no_text (head_line d n) }
@@ -47,6 +48,7 @@ fn head_line(d: Device, n: usize) -> Text
 }
 
 // The lines below the sources' columns.
+// Stays: what is shown goes by a number, as the definition does (words/Shown.tail_line), and whoever prints counts it up.
 #[tactic(auto, unfolding(crate::specs::Shown::tail_line))]
 fn tail_line(d: Device, n: usize) -> Text
     ensures { result ≡ typed no_text (tail_line d n) }
@@ -59,6 +61,7 @@ fn tail_line(d: Device, n: usize) -> Text
 }
 
 // Line n of a device, with its line feed.
+// Stays: what is shown goes by a number, as the definition does (words/Shown.shown_line), and whoever prints counts it up.
 #[tactic(auto, unfolding(crate::specs::Shown::shown_line, texts::specs::Spelled::spelled))]
 pub fn line(d: Device, n: usize) -> Text
     ensures { result ≡ typed no_text (shown_line d n) }

@@ -9,6 +9,7 @@ ghost use Rattle.rules.specs.Counters.{enabled_by};
 ghost use Rattle.rules.specs.Access.{master_written, kept_by, config_written, port_commanded, counter_commanded, data_written, written_of};
 ghost use Rattle.registers.specs.Place.{place, places};
 
+use basics::Place;
 use rules::{Counter, Device, Kind, Source, Transfer};
 
 #[tactic(auto, unfolding(rules::specs::Access::master_written))]
@@ -65,26 +66,26 @@ fn write_config(d: Device, b: u8) -> Device
 }
 
 #[tactic(auto, unfolding(rules::specs::Access::port_commanded))]
-fn command_port(d: Device, p: usize, b: u8) -> Device
-    requires { p < 2 }
+fn command_port(d: Device, p: Place<2>, b: u8) -> Device
     ensures { result ≡ port_commanded d p b }
 {
-    let k = Source::of_port(p);
+    let i = p.index();
+    let k = Source::of_port(i);
     let mut e = d;
-    e.patterns[p].ioe = b % 2 == 1;
+    e.patterns[i].ioe = b % 2 == 1;
     e.sources[k] = sources::command(d.sources[k], b / 32);
-    e.transfers[p].pair = d.transfers[p].pair & !((b / 32 == 1) | (b / 32 == 5));
+    e.transfers[i].pair = d.transfers[i].pair & !((b / 32 == 1) | (b / 32 == 5));
     e
 }
 
 #[tactic(auto, unfolding(rules::specs::Access::counter_commanded))]
-fn command_counter(d: Device, i: usize, b: u8) -> Device
-    requires { i < 3 }
+fn command_counter(d: Device, i: Place<3>, b: u8) -> Device
     ensures { result ≡ counter_commanded d i b }
 {
-    let k = Source::of_counter(i);
+    let n = i.index();
+    let k = Source::of_counter(n);
     let mut e = d;
-    e.counters[i] = counters::command(levels::counter_on(d.config, i), b, d.counters[i]);
+    e.counters[n] = counters::command(levels::counter_on(d.config, n), b, d.counters[n]);
     e.sources[k] = sources::command(d.sources[k], b / 32);
     e
 }
@@ -102,7 +103,6 @@ fn write_data(d: Device, p: usize, b: u8) -> Device
     e
 }
 
-// Stays: a Kind carries plain numbers, so a place in range would be made again in every arm that calls one of the functions above.
 // The table of the registers, an arm for each. It writes one record in place: arms that each return one took twice the instructions.
 #[tactic(auto, unfolding(rules::specs::Access::written_of))]
 fn write_kind(d: Device, k: Kind, b: u8) -> Device
@@ -117,8 +117,8 @@ fn write_kind(d: Device, k: Kind, b: u8) -> Device
         Kind::Polarity(p) => e.ports[p].polarity = data::keep(p, b),
         Kind::Direction(p) => e.ports[p].direction = data::keep(p, b),
         Kind::Special(p) => e.ports[p].special = data::keep(p, b),
-        Kind::PortCommand(p) => e = command_port(d, p, b),
-        Kind::CounterCommand(i) => e = command_counter(d, i, b),
+        Kind::PortCommand(p) => e = command_port(d, Place { at: p }, b),
+        Kind::CounterCommand(i) => e = command_counter(d, Place { at: i }, b),
         Kind::Data(p) => e = write_data(d, p, b),
         Kind::Current(_, _) => {}
         Kind::Constant(i, high) => {

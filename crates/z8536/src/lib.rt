@@ -8,7 +8,7 @@ ghost use Rattle.z8536.specs.Z8536.{fresh_z8536, reset_clear, sound_z8536};
 use rules::Device;
 
 // The device. `core` is the Z8036's record; `pointer` the register pointed to last, and `pointed` that it was set just now.
-#[derive(Clone, Copy)]
+#[derive(Clone, Copy, PartialEq, Eq)]
 pub struct Z8536 {
     pub core: Device,
     pub pointer: u8,
@@ -36,16 +36,15 @@ impl Z8536 {
 fn reset_clear(z: Z8536) -> bool
     ensures { result ≡ reset_clear z }
 {
-    let d = z.core;
-    !d.reset() | ((z.pointer == 0) & !z.pointed)
+    !z.core.reset() | ((z.pointer == 0) & !z.pointed)
 }
 
 #[tactic(auto, unfolding(crate::specs::Z8536::sound_z8536))]
 pub fn sound(z: Z8536) -> bool
     ensures { result ≡ sound_z8536 z }
 {
-    let d = z.core;
-    let core = refusals::sound(d);
-    let clear = reset_clear(z);
-    core & (d.version == 2) & ((z.pointer as usize) < Device::REGISTERS) & clear
+    refusals::sound(z.core)
+        & (z.core.version == 2)
+        & ((z.pointer as usize) < Device::REGISTERS)
+        & reset_clear(z)
 }
