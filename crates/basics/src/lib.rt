@@ -3,11 +3,11 @@
 
 mod place;
 
-pub use place::Place;
-
 ghost use Rattle.std.specs.Prelude.{◌≡◌, cond, ◌+◌, ◌*◌, ◌≤◌, length, get_or};
 ghost use Rattle.basics.specs.Byte.{byte_in, with_byte};
 ghost use Rattle.basics.specs.Buffer.{fits, laid_of};
+
+pub use place::Place;
 
 // A bit's weight, or 0.
 pub fn weight(on: bool, w: u8) -> u8

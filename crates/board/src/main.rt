@@ -77,7 +77,9 @@ fn main(rt: HostRuntime) {
     match argument(&rt) {
         Some(n) => answer_all(n, &mut rt.stdin(), &mut rt.stdout()),
         None => {
-            let _ = rt.stderr().write_all(b"board: the argument is how many devices, 1 to 8\n");
+            let _ = rt
+                .stderr()
+                .write_all(b"board: the argument is how many devices, 1 to 8\n");
         }
     }
 }
