@@ -8,7 +8,7 @@ use base.Logic.{fst∗}
 use contract.Monad.{fact, fact_mono}
 use seplogic.Ra.Ura.{Ura}
 use mathlib.Core.List.{List, []}
-use mathlib.Core.Path.{refl}
+use mathlib.Core.Path.{◌≡◌, refl}
 use Rattle.basics.specs.Buffer.{fits, laid_of}
 use Rattle.basics.specs.Byte.{byte_in, byte_of, with_byte}
 use Rattle.basics.specs.Iterate.{iterate}
@@ -85,8 +85,8 @@ use Rattle.session.specs.declared.Fed.{Fed}
 use Rattle.session.specs.declared.Told.{Told}
 use Rattle.rules.specs.contracts.Source.of_port as rules·Source-of-port
 use Rattle.rules.specs.contracts.Source.of_counter as rules·Source-of-counter
-use Rattle.rules.specs.contracts.refusal.Refusal.number as rules·Refusal-number
-use Rattle.rules.specs.contracts.refusal.code as rules·code
+use Rattle.rules.specs.contracts.Refusal.number as rules·Refusal-number
+use Rattle.rules.specs.contracts.code as rules·code
 use Rattle.rules.specs.contracts.Device.fresh as rules·Device-fresh
 use Rattle.rules.specs.contracts.Device.image_len as rules·Device-image-len
 use Rattle.rules.specs.contracts.Device.registers as rules·Device-registers
@@ -186,8 +186,8 @@ use Rattle.basics.specs.contracts.with_byte as basics·with-byte
 use Rattle.basics.specs.contracts.byte_at as basics·byte-at
 use Rattle.basics.specs.contracts.word_at as basics·word-at
 use Rattle.basics.specs.contracts.lay as basics·lay
-use Rattle.basics.specs.contracts.place.Place.of as basics·Place-of
-use Rattle.basics.specs.contracts.place.Place.index as basics·Place-index
+use Rattle.basics.specs.contracts.Place.of as basics·Place-of
+use Rattle.basics.specs.contracts.Place.index as basics·Place-index
 use Rattle.counters.specs.contracts.output as counters·output
 use Rattle.counters.specs.contracts.turn as counters·turn
 use Rattle.counters.specs.contracts.rests as counters·rests
