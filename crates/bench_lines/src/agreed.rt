@@ -31,7 +31,7 @@ fn bit(f: bool) -> u8
 }
 
 // The place after the first field of a line, where that is this code, or `-`.
-// Stays: the code is a number, since the code of an answer is one (rules::Answer).
+// Stays: the code is a number, as the answer has it (rules::Answer).
 fn first(b: &[u8], at: usize, code: u8) -> Option<usize>
     ensures met_first { IfSome result (MetFirst (decimal_text code ∷ []) b.now at) }
     ensures upper_bound { IfSome result (λ r. r ≤ length b.now) }

@@ -67,7 +67,7 @@ fn unsound(device: Ctc) -> Outcome<Ctc, CtcAnswer>
 }
 
 // An answer with the lines after the event.
-// Stays: the code is a number, since the code of an answer is one (rules::Answer).
+// Stays: the code is a number, as the answer has it (ctc_rules/Events.outcome_ctc).
 #[tactic(auto, unfolding(ctc_rules::specs::Events::outcome_ctc, ctc_rules::specs::Interrupts::int_ctc))]
 fn outcome(code: u8, f: CtcEffect) -> Outcome<Ctc, CtcAnswer>
     ensures { result ≡ outcome_ctc code f }

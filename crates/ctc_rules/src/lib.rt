@@ -49,7 +49,7 @@ impl Ctc {
 }
 
 // A channel after a count or a clock, and whether that was a zero count.
-// Stays: in one type with the next, `zeros` would be here a bool.
+// Stays: in one generic type with `ChannelRan` a field `zeros` would be a bool here and a number there.
 #[derive(Clone, Copy)]
 pub struct Zeroed {
     pub channel: Channel,

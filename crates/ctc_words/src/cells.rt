@@ -25,7 +25,7 @@ pub(crate) const LABELS: [[u8; 16]; 12] = [
 ];
 
 // 0 is 256 in a channel that has a constant.
-// Stays: the record keeps the two fields apart (ctc_rules::Channel), and the count with either.
+// Stays: the flag and the number are two fields of the record (ctc_rules::Channel), and the constant and the count go by the one flag.
 #[tactic(auto, unfolding(crate::specs::Shown::full_if))]
 fn full(loaded: bool, n: u8) -> u32
     ensures { result ≡ full_if loaded n }

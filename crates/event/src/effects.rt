@@ -47,7 +47,7 @@ fn read_effect(d: Device, a: u32) -> Effect
 }
 
 // Other outside levels.
-// Stays: the three outside levels are numbers of the event, each in its own range by now.
+// Stays: the levels of A, B and C, as the definition takes them (rules/Events.outside_set); an array would be made for it and taken apart.
 #[tactic(auto, unfolding(rules::specs::Events::outside_set))]
 fn with_outside(d: Device, a: u8, b: u8, c: u8) -> Device
     ensures { result ≡ outside_set d a b c }
@@ -63,7 +63,7 @@ fn with_outside(d: Device, a: u8, b: u8, c: u8) -> Device
     }
 }
 
-// Stays: the three outside levels are numbers of the event, each in its own range by now.
+// Stays: the levels of A, B and C, as the definition takes them (rules/Events.outside_set); an array would be made for it and taken apart.
 #[tactic(auto, unfolding(rules::specs::Events::pins_effect))]
 fn pins_effect(d: Device, a: u8, b: u8, c: u8) -> Effect
     ensures { result ≡ pins_effect d a b c }

@@ -29,7 +29,7 @@ fn unsound(d: Device) -> Outcome<Device>
 }
 
 // An answer with the lines after the event, which are worked out once.
-// Stays: the code is a number, since the code of an answer is one (rules::Answer).
+// Stays: the code is a number, as the answer has it (rules/Events.outcome_of).
 #[tactic(auto, unfolding(rules::specs::Events::outcome_of, rules::specs::Events::answer_of, rules::specs::Events::relit))]
 fn outcome(code: u8, f: Effect) -> Outcome<Device>
     ensures { result ≡ outcome_of code (relit f) }

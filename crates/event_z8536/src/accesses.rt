@@ -56,7 +56,7 @@ pub(crate) fn points(z: Z8536, e: Event) -> bool
 }
 
 // Whether an access with this code ends the pointer state.
-// Stays: the code is a number, since the code of an answer is one (rules::Answer).
+// Stays: the code is a number, as the answer has it (z8536/Z8536.ends).
 #[tactic(auto, unfolding(z8536::specs::Z8536::ends))]
 fn ends(e: Event, code: u8) -> bool
     ensures { result ≡ ends e code }

@@ -31,7 +31,7 @@ fn unsound(z: Z8536) -> Outcome<Z8536>
 }
 
 // An answer with nothing done in the core.
-// Stays: the code is a number, since the code of an answer is one (rules::Answer).
+// Stays: the code is a number, as the answer has it (z8536/Z8536.stands).
 #[tactic(auto, unfolding(z8536::specs::Z8536::stands, rules::specs::Events::answer_of))]
 fn stands(code: u8, z: Z8536) -> Outcome<Z8536>
     ensures { result ≡ stands code z }

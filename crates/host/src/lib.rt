@@ -70,7 +70,7 @@ pub fn wolfscarer_z8036_lines(state: &[u8], answer: &mut [u8]) -> u8
     hosted::lines::<Device>(state, answer)
 }
 
-// The same of a Z8536.
+// The image of the fresh Z8536, likewise.
 pub fn wolfscarer_z8536_fresh(state: &mut [u8]) -> u8
     ensures { (result ≡ fresh_code (image_z8536 fresh_z8536) state.old) × (state.new ≡ fresh_state (image_z8536 fresh_z8536) state.old) }
 {
@@ -101,7 +101,7 @@ pub fn wolfscarer_z8536_lines(state: &[u8], answer: &mut [u8]) -> u8
     hosted::lines::<Z8536>(state, answer)
 }
 
-// The same of a CTC.
+// The image of the fresh CTC, likewise.
 pub fn wolfscarer_ctc_fresh(state: &mut [u8]) -> u8
     ensures { (result ≡ fresh_code (image_ctc fresh_ctc) state.old) × (state.new ≡ fresh_state (image_ctc fresh_ctc) state.old) }
 {

@@ -54,7 +54,7 @@ pub extern "C" fn wolfscarer_z8036_lines(state: &[u8], answer: &mut [u8]) -> u8
     host::wolfscarer_z8036_lines(state, answer)
 }
 
-// The same of a Z8536.
+// The image of the fresh Z8536, likewise.
 #[unsafe(no_mangle)]
 pub extern "C" fn wolfscarer_z8536_fresh(state: &mut [u8]) -> u8
     ensures { (result ≡ fresh_code (image_z8536 fresh_z8536) state.old) × (state.new ≡ fresh_state (image_z8536 fresh_z8536) state.old) }
@@ -85,7 +85,7 @@ pub extern "C" fn wolfscarer_z8536_lines(state: &[u8], answer: &mut [u8]) -> u8
     host::wolfscarer_z8536_lines(state, answer)
 }
 
-// The same of a CTC.
+// The image of the fresh CTC, likewise.
 #[unsafe(no_mangle)]
 pub extern "C" fn wolfscarer_ctc_fresh(state: &mut [u8]) -> u8
     ensures { (result ≡ fresh_code (image_ctc fresh_ctc) state.old) × (state.new ≡ fresh_state (image_ctc fresh_ctc) state.old) }

@@ -1,4 +1,5 @@
 // What an image begins with.
+
 // Version 1: 01, 04, and for each body its id, offset (two bytes, high first) and length.
 pub(crate) const OLD: [u8; 18] = [1, 4, 1, 0, 18, 48, 2, 0, 66, 9, 3, 0, 75, 7, 4, 0, 82, 2];
 

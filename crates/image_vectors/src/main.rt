@@ -10,7 +10,7 @@ use streams::LARGE_BUFFER;
 use z8536::Z8536;
 
 // The bytes of a line so far, two digits to a byte, and whether it is for the Z8536; a longer line keeps its first 128.
-// Stays: `z8536` says to which restore the bytes go; they count either way.
+// Stays: `digits` tells how much of `bytes` is filled, with no heap; `z8536` tells to which restore they go.
 #[derive(Clone, Copy)]
 struct Line {
     bytes: [u8; 128],
@@ -70,7 +70,7 @@ fn print_bytes<W: Write>(out: &mut W, b: &[u8]) {
 }
 
 // A code; with 0 the image.
-// Stays: the code is a number, since the file that the gate compares has it so.
+// Stays: the code is a number, since `Restored.code` is one and it is printed as it is.
 fn print_code<W: Write>(out: &mut W, code: u8, image: &[u8]) {
     let _ = write!(out, "{code}");
     if code == 0 {

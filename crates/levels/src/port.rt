@@ -22,7 +22,7 @@ pub(crate) fn path(q: Port, pins: u8, value: u8) -> u8
     ((pins ^ q.polarity) & q.direction) | (value & (q.direction ^ 255))
 }
 
-// Stays: a port, its enable and its path value, as the definition takes them; the port alone is a struct.
+// Stays: a port, its enable and its path value, as the definition takes them (rules/PortData.seen_of); callers have each from elsewhere.
 #[tactic(auto, unfolding(rules::specs::PortData::seen_of))]
 pub(crate) fn seen(enabled: bool, q: Port, path: u8) -> u8
     ensures { result ≡ seen_of enabled q path }

@@ -9,7 +9,7 @@ use texts::Text;
 pub const MOST: usize = 80;
 
 // What an unreadable line is answered as: a kind above 6.
-// Stays: 7 is a kind above 6, as a line is answered that is none (lines/Lines.event_in).
+// Stays: the number is the one that the definition gives to an unreadable line (lines/Lines.event_in).
 pub const UNREADABLE: Event = Event {
     kind: 7,
     a: 0,

@@ -132,7 +132,7 @@ fn leapt(f: Stage, x: Pair, left: u32) -> Leap
 }
 
 // One leap.
-// Stays: `Holds` ties a run to the Stage that it runs on, and no field of a Chase has that.
+// Stays: a struct of the Stage and the Chase with Holds as its invariant would copy the Stage at each leap.
 fn advanced(f: Stage, c: Chase) -> Chase
     requires { Holds f c × (0 < c.left) }
     ensures { Follows f c result × (result.left < c.left) × (0 < result.since) }
@@ -147,7 +147,7 @@ fn advanced(f: Stage, c: Chase) -> Chase
 }
 
 // The pair has come back: all whole rounds that are left.
-// Stays: `Holds` ties a run to the Stage that it runs on, and no field of a Chase has that.
+// Stays: a struct of the Stage and the Chase with Holds as its invariant would copy the Stage at each leap.
 #[tactic(auto, unfolding(crate::specs::Chase::with_terminals))]
 fn skipped(f: Stage, c: Chase) -> Chase
     requires { Holds f c × (0 < c.since) × (with_terminals c.now c.anchor.terminals ≡ c.anchor) }
@@ -169,7 +169,7 @@ fn skipped(f: Stage, c: Chase) -> Chase
 }
 
 // The present is the anchor, for twice as many leaps.
-// Stays: `Holds` ties a run to the Stage that it runs on, and no field of a Chase has that.
+// Stays: a struct of the Stage and the Chase with Holds as its invariant would copy the Stage at each leap.
 fn renewed(f: Stage, c: Chase) -> Chase
     requires { Holds f c }
     ensures { Follows f c result }
@@ -184,7 +184,7 @@ fn renewed(f: Stage, c: Chase) -> Chase
 }
 
 // The rounds that are left, where the pair has come back; else the same moment, perhaps as the anchor.
-// Stays: `Holds` ties a run to the Stage that it runs on, and no field of a Chase has that.
+// Stays: a struct of the Stage and the Chase with Holds as its invariant would copy the Stage at each leap.
 fn turned(f: Stage, c: Chase) -> Chase
     requires { Holds f c × (0 < c.since) }
     ensures { Follows f c result }

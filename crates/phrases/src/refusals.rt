@@ -25,7 +25,7 @@ fn not_whole(whole: u32, n: usize) -> Text
 }
 
 // Why an image of n bytes that should have so many is refused, by the code of the refusal.
-// Stays: paper 01 has a code as a number, and so do the records that images restore to (image::Restored).
+// Stays: a code is a number in paper 01, and `image::Restored` hands it on as one.
 #[tactic(auto, unfolding(crate::specs::Refusals::refusal, texts::specs::Spelled::spelled))]
 pub fn refusal_line(code: u8, whole: u32, n: usize) -> Text
     ensures { result ≡ typed no_text (refusal code whole n) }

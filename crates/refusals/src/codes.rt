@@ -1,4 +1,4 @@
-// The code of an event: a test for each refusal, in the paper's order.
+// What refuses an event: a test for each refusal, in the paper's order.
 ghost use Rattle.std.specs.Prelude.{◌≡◌, ◌&&◌, ◌==◌};
 ghost use Rattle.rules.specs.Registers.{read_only, later};
 ghost use Rattle.rules.specs.Interrupts.{requester};
@@ -118,7 +118,7 @@ pub fn admit_known(d: Device, e: Event) -> Result<(), Refusal>
     Ok(())
 }
 
-// And with the first.
+// The same, with 9 before them.
 #[tactic(auto, unfolding(rules::specs::Events::code_of, crate::specs::Known::known_code, rules::specs::Refusals::code_in, rules::specs::Refusals::refusal_number))]
 pub fn admit(d: Device, e: Event) -> Result<(), Refusal>
     ensures { code_in result ≡ code_of d e }

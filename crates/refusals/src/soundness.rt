@@ -59,7 +59,7 @@ fn four_bits(q: Port) -> bool
 }
 
 // A catcher only where a bit has one, and set where the path value is 1.
-// Stays: a port, its enable and its path value, as the definition takes them; the port alone is a struct.
+// Stays: a port, its enable and its path value, as the definition takes them (rules/Sound.sound_port); callers have each from elsewhere.
 #[tactic(auto, unfolding(rules::specs::Sound::sound_port, rules::specs::Sound::catcher_only, rules::specs::Sound::catcher_set))]
 fn sound_port(enabled: bool, q: Port, path: u8) -> bool
     ensures { result ≡ sound_port enabled q path }

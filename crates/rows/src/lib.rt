@@ -7,7 +7,7 @@ ghost use Rattle.rows.specs.Rows.{names};
 
 use rules::{Event, Report};
 
-// An event of a row, and the device that it names, the first is 0. A kind that names none ignores the number.
+// An event of a row, and the device that it names; the first is 0. A kind that names none ignores the number.
 #[derive(Clone, Copy)]
 pub struct RowEvent {
     pub device: u32,

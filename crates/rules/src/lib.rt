@@ -177,7 +177,6 @@ impl Device {
     }
 
     // The constant's value, for those who know it by the definition.
-
     pub fn registers() -> usize
         ensures { result ≡ register_count }
     {

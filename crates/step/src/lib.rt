@@ -141,7 +141,7 @@ fn ct1_output(d: Device) -> bool
     counters::output(d.version, d.counters[0])
 }
 
-// Stays: a port, its enable and its path value, as the definition takes them; the port alone is a struct.
+// Stays: a port, its enable and its path value, as the definition takes them (rules/PortData.caught_of); callers have each from elsewhere.
 #[tactic(auto, unfolding(rules::specs::PortData::caught_of))]
 fn caught(enabled: bool, q: Port, path: u8) -> u8
     ensures { result ≡ caught_of enabled q path }

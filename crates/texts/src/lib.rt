@@ -87,7 +87,7 @@ impl Text {
     }
 
     // The digit at the place of a power of ten.
-    // Stays: a power of ten is above 0; three functions in three crates ask it, and each is called with numbers that stand there.
+    // Stays: a power of ten is above 0; three functions in two crates ask it, and each is called with numbers that stand there.
     #[tactic(auto, unfolding(crate::specs::Kept::typed, crate::specs::Answers::place_text))]
     fn place(self, p: u32, n: u32) -> Text
         requires { 0 < p }

@@ -66,7 +66,7 @@ pub(crate) fn byte_cell(t: Text, n: u8) -> Text
 }
 
 // The digit at the place of a power of ten, or a space.
-// Stays: a power of ten is above 0; three functions in three crates ask it, and each is called with numbers that stand there.
+// Stays: a power of ten is above 0; three functions in two crates ask it, and each is called with numbers that stand there.
 #[tactic(auto, unfolding(crate::specs::Cells::digit_or_space))]
 fn digit(p: u32, n: u32) -> u8
     requires { 0 < p }
