@@ -157,6 +157,7 @@ fn last(a: Answer, b: &[u8], at: usize) -> usize
 }
 
 // By its fields, one by one.
+// Stays: the place itself where the line does not agree, by the definition (bench_lines/Agreed.agreed_to).
 fn plain(a: Answer, boards: &[u8], at: usize) -> usize
     ensures { result ≡ agreed_to a boards.now at }
 {
@@ -172,6 +173,7 @@ fn plain(a: Answer, boards: &[u8], at: usize) -> usize
 }
 
 // The place after a line that begins at a place of a buffer, ends in it, and agrees with the answer; else that place itself.
+// Stays: the place itself where the line does not agree, by the definition (bench_lines/Agreed.agreed_to).
 pub fn agreed_to(a: Answer, boards: &[u8], at: usize) -> usize
     ensures { result ≡ agreed_to a boards.now at }
 {

@@ -69,5 +69,6 @@ pub fn compare(a: Answer, line: &[u8]) -> Option<Compared>
 pub fn compare_kept(a: Answer, t: Text) -> Option<Compared>
     ensures { result ≡ compared_kept a t }
 {
+    // Stays: None where the line had no room; a method for it would be a public call more, whose clause is as long.
     compare(a, t.bytes.get(..t.len)?)
 }

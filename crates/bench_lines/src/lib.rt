@@ -14,6 +14,7 @@ pub use names::field_name;
 pub const FIELDS: usize = 13;
 
 // A line that is readable, beside an answer: whether no field differs, and which do.
+// Stays: `agrees` is worked out from `differs` once, as the definition has it (bench_lines/Compared.compared_of).
 #[derive(Clone, Copy)]
 pub struct Compared {
     pub agrees: bool,

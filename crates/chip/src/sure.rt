@@ -17,6 +17,7 @@ pub fn sound(c: Chip) -> bool
 }
 
 // The event call; where `sure` says that the record is known to be sound, a Z8036 does not ask again.
+// Stays: `sure` is the caller's, and the clause holds of any device (chip/Chips.known_chip).
 #[tactic(auto, unfolding(crate::specs::Chips::known_chip))]
 pub fn known(sure: bool, c: Chip, e: Event) -> Outcome<Chip>
     ensures { result ≡ known_chip sure c e }

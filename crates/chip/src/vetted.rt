@@ -10,6 +10,7 @@ use std::marker::Model;
 
 // A device, and whether it was found sound, which is asked once: an event of a sound record leaves a sound one. In a clause it is the
 // device.
+// Stays: `sound` is what was found of `device`, and the invariant ties the two; either counts alone.
 #[derive(Drop)]
 pub struct Vetted {
     device: Chip,

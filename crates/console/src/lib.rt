@@ -19,6 +19,7 @@ pub fn print<W: Write>(out: &mut W, t: Text) -> io::Result<()>
     ensures no_room { text_room < t.len → IsErr result }
     ensures bytes { OnOk result (Appends (W.contents out.old) (W.contents out.new) (take t.len t.bytes)) }
 {
+    // Stays: None where the line had no room; a method for it would be a public call more, whose clause is as long.
     match t.bytes.get(..t.len) {
         Some(bytes) => out.write_all(bytes),
         None => Err(io::Error::from(ErrorKind::InvalidInput)),

@@ -12,6 +12,7 @@ use texts::Text;
 fn ends_service(t: Text) -> bool
     ensures { result ≡ ends_service (bytes_of t) }
 {
+    // Stays: None where the line had no room; a method for it would be a public call more, whose clause is as long.
     matches!(t.bytes.get(..t.len), Some([b'I']))
 }
 

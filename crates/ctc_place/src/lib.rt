@@ -8,6 +8,7 @@ use ctc_rules::{Ctc, CtcAnswer};
 use rules::Event;
 
 // The event call, with the same answer.
+// Stays: its twin alters the other device; one for both would be a trait for three lines.
 pub fn event_in_place(d: &mut Ctc, e: Event) -> CtcAnswer
     ensures { (result ≡ (event_ctc d.old e).answer) × (d.new ≡ (event_ctc d.old e).device) }
 {

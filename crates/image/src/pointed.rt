@@ -22,6 +22,7 @@ fn write_z8536(z: Z8536, buf: &mut [u8])
 
 // Saves a Z8536 into the first 102 bytes of a buffer. Codes as for the Z8036: 9, then 7, else 0. A refused save leaves the buffer as
 // it was.
+// Stays: the twin in `ctc_image` has the same two tests, of another record and another length; one for both would take five arguments.
 #[tactic(auto, unfolding(rules::specs::Refusals::code_in, rules::specs::Refusals::refusal_number))]
 pub fn save_z8536(z: Z8536, buf: &mut [u8]) -> Result<(), Refusal>
     ensures { (code_in result ≡ save_code_z8536 z (length buf.old)) × (buf.new ≡ saved_z8536 z buf.old) }
@@ -76,6 +77,7 @@ fn read(s: &[u8]) -> Result<Z8536, Refusal>
 }
 
 // Restores a Z8536 from its image, with the codes of the Z8036's restore in their order. A refused restore gives the fresh device.
+// Stays: the twin in `ctc_image` is one call too, of `Restored::of`, which both share.
 pub fn restore_z8536(s: &[u8]) -> Restored<Z8536>
     ensures { result ≡ restored_z8536 s.now }
 {

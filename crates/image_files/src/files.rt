@@ -52,11 +52,13 @@ fn why(error: &io::Error) -> Trouble {
 }
 
 // A line that says what a call on a file failed at.
+// Stays: a bool that says which of two words stands in the line.
 pub fn trouble<W: Write>(report: &mut W, path: &[u8], writing: bool, error: &io::Error) {
     say(report, path, phrases::trouble_line(writing, why(error)));
 }
 
 // What a call on a file answers; where it failed, a line says so.
+// Stays: a bool that says which of two words stands in the line.
 pub(crate) fn told<T: Drop, W: Write>(
     done: io::Result<T>,
     writing: bool,

@@ -5,6 +5,7 @@ use std::io;
 use std::io::ErrorKind;
 use streams::BUFFER;
 
+// Stays: a buffer with its length, since no heap is used; the invariant ties the two.
 #[derive(Clone, Copy)]
 pub(crate) struct Name {
     bytes: [u8; BUFFER],

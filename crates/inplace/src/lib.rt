@@ -9,6 +9,7 @@ ghost use Rattle.rules.specs.Events.{event_of};
 use rules::{Answer, Device, Event, Lines};
 
 // Beside the call that hands a record back there is one that alters the host's device where it stands, with the same answer.
+// Stays: its twin alters the other device; one for both would be a trait for three lines.
 pub fn event_in_place(d: &mut Device, e: Event) -> Answer
     ensures { (result ≡ (event_of d.old e).answer) × (d.new ≡ (event_of d.old e).device) }
 {

@@ -16,6 +16,7 @@ use basics::Place;
 use rules::{Device, Port};
 
 // Whether a configuration enables port p.
+// Stays: three bits of register 01 each, by name; a table of weights would hide which is which.
 #[tactic(auto, unfolding(rules::specs::Registers::port_on))]
 pub fn port_on(config: u8, p: usize) -> bool
     ensures { result ≡ port_on config p }
@@ -36,6 +37,7 @@ pub fn port_enabled(d: Device, p: usize) -> bool
 }
 
 // Whether a configuration enables counter i.
+// Stays: three bits of register 01 each, by name; a table of weights would hide which is which.
 #[tactic(auto, unfolding(rules::specs::Registers::counter_on))]
 pub fn counter_on(config: u8, i: usize) -> bool
     ensures { result ≡ counter_on config i }

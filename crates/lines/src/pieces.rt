@@ -39,6 +39,7 @@ pub fn cut_from(t: Text, piece: &[u8], at: usize) -> Cut
 }
 
 // Where the line feed is that ends a line, from a place in a piece on; the end of the piece where there is none.
+// Stays: the end of the piece where no line feed is, as the definition counts (lines/Pieces.feed_at); callers compare with the piece's length.
 pub fn line_end(piece: &[u8], at: usize) -> usize
     ensures { result ≡ at + feed_at (drop at piece.now) }
 {

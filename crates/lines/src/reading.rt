@@ -111,6 +111,7 @@ fn meaning(s: &[u8]) -> Option<Event>
 fn says(t: Text) -> Option<Event>
     ensures { result ≡ says_of t }
 {
+    // Stays: None where the line had no room; a method for it would be a public call more, whose clause is as long.
     meaning(t.bytes.get(..t.len)?)
 }
 

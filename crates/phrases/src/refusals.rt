@@ -37,6 +37,7 @@ pub fn refusal_line(code: u8, whole: u32, n: usize) -> Text
     }
 }
 
+// Stays: a bool that says which of two words stands in the line.
 #[tactic(auto, unfolding(crate::specs::Refusals::attempt, texts::specs::Spelled::spelled))]
 fn attempt(writing: bool) -> Text
     ensures { result ≡ typed no_text (attempt_of writing) }
@@ -74,6 +75,7 @@ fn reason(t: Text, why: Trouble) -> Text
 }
 
 // Why a file cannot be read or written.
+// Stays: a bool that says which of two words stands in the line.
 #[tactic(auto, using(texts::proofs::Typing::typed_append), unfolding(texts::specs::Kept::typed, crate::specs::Refusals::trouble))]
 pub fn trouble_line(writing: bool, why: Trouble) -> Text
     ensures { result ≡ typed no_text (trouble writing why) }

@@ -67,6 +67,7 @@ fn said(s: &[u8], t: Text) -> RowEvent
 pub fn event_of_line(t: Text) -> RowEvent
     ensures { result ≡ row_line t }
 {
+    // Stays: None where the line had no room; a method for it would be a public call more, whose clause is as long.
     match t.bytes.get(..t.len) {
         Some(s) => said(s, t),
         None => of_all(lines::event_of_line(t)),

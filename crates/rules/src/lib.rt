@@ -87,6 +87,7 @@ pub struct Pattern {
 
 // What a port with handshake holds: the front byte, the byte behind it, how many are held, a transfer that is unfinished,
 // and a pair of reads or writes half done.
+// Stays: the record has room for two bytes and says how many it holds, as paper 01 and body 5 of an image have it.
 #[derive(Clone, Copy, Default, PartialEq, Eq)]
 pub struct Transfer {
     pub front: u8,
@@ -313,6 +314,7 @@ pub struct Turned {
 }
 
 // A device after a step, which of the counters 1, 2, 3 were terminal, and which terminals were lost.
+// Stays: two lists side by side, as the report has them.
 #[derive(Clone, Copy)]
 pub struct Stepped {
     pub device: Device,

@@ -35,7 +35,8 @@ pub struct Told {
     pub len: usize,
 }
 
-// The same, of a device that need not be asked again whether it is sound.
+// A session as Fed has it, of a device that need not be asked again whether it is sound.
+// Stays: `len` counts bytes of the caller's buffer, which a call lends and takes back.
 #[derive(Drop)]
 struct Taken {
     device: Vetted,

@@ -4,6 +4,7 @@
 use chip::Chip;
 use rules::Device;
 
+// Stays: two programs, each of its own device; what they do is one call.
 fn main(rt: HostRuntime) {
     let d = Chip::from(Device::fresh());
     let _ = console::run(d, &mut rt.stdin(), &mut rt.stdout());

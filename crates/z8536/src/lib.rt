@@ -8,6 +8,7 @@ ghost use Rattle.z8536.specs.Z8536.{fresh_z8536, reset_clear, sound_z8536};
 use rules::Device;
 
 // The device. `core` is the Z8036's record; `pointer` the register pointed to last, and `pointed` that it was set just now.
+// Stays: `pointed` is state of its own beside `pointer`, which stands when it ends; an image has both (bodies/Written.pointer_body).
 #[derive(Clone, Copy, PartialEq, Eq)]
 pub struct Z8536 {
     pub core: Device,
