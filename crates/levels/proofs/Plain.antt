@@ -1,7 +1,7 @@
 -- Where no port has a handshake, each has its own settings in effect, and Port C has no lines.
 -- Assumes nothing.
 use Prim.Native.Nat.{ℕ, zero, suc, ◌-◌, ◌/◌, ◌≤◌, ◌<◌}
-use mathlib.Core.Path.{◌≡◌, refl, sym, ap, ap₂, ◌∙◌}
+use mathlib.Core.Path.{◌≡◌, refl, sym, ap}
 use mathlib.Core.Bool.{Bool, true, false, ◌||◌, beq, cond, true≢false, and-false, or-false}
 use mathlib.Core.List.{List}
 use native.Mathlib.Omega.{arith}
@@ -12,8 +12,7 @@ use Rattle.rules.specs.declared.Device.{Device}
 use Rattle.rules.specs.Record.{blank, port_at, pattern_at}
 use Rattle.rules.specs.Handshakes.{inputs, outputs, handshakes, is_line}
 use Rattle.rules.specs.declared.Port.{Port}
-use Rattle.rules.specs.Registers.{port_enabled}
-use Rattle.rules.specs.PortData.{pin_bit, path_bit, pins_of, path_of, direction_at, special_at, effective_at, standing, lined, value_at, pins_at, path_at}
+use Rattle.rules.specs.PortData.{pin_bit, path_bit, pins_of, path_of, direction_at, special_at, effective_at, standing, lined, value_at}
 use Rattle.basics.specs.Byte.{bit}
 use Rattle.basics.proofs.Truth.{all6, same}
 use Rattle.basics.proofs.Laws.{byte-of, bit_byte_lem, byte-lt, by_bits}
@@ -44,12 +43,6 @@ path-outside e q v =
     (λ k h.
     simp (bit_byte_lem (λ k. pin_bit e (bit q.direction k) (bit q.special k) (bit q.polarity k) (bit v k) (bit q.outside k)) k h)
     (path-bit e (bit q.direction k) (bit q.special k) (bit q.polarity k) (bit v k) (bit q.outside k)))
-
--- the path value of a port with what is in effect, and the value that it puts out
-pub path-face : (d : Device) (p : ℕ) (q : Port) (v : ℕ) → q ≡ effective_at d p → v ≡ value_at d p → path_of q q.outside v ≡ path_at d p
-unfolding path_at pins_at
-path-face d p q v e f =
-    ap₂ (λ (r : Port) (x : ℕ). path_of r r.outside x) e f ∙ sym (path-outside (port_enabled d p) (effective_at d p) (value_at d p))
 
 -- the first two of three, and the last
 pub of_two : (p x y z w : ℕ) → p < 2 → cond (eqb p 0) x (cond (eqb p 1) y z) ≡ cond (eqb p 0) x (cond (eqb p 1) y w)

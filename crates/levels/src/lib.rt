@@ -4,11 +4,11 @@
 mod handshake;
 mod port;
 
-ghost use Rattle.std.specs.Prelude.{◌≡◌};
+ghost use Rattle.std.specs.Prelude.{◌≡◌, false, ◌||◌};
 ghost use Rattle.rules.specs.Record.{port_at, pattern_at, transfer_at};
 ghost use Rattle.rules.specs.Registers.{port_on, port_enabled, counter_on};
 ghost use Rattle.rules.specs.Handshakes.{inputs, outputs, handshakes, ackin_at, offers_at};
-ghost use Rattle.rules.specs.PortData.{direction_at, effective_at, value_at, pins_at, path_of, path_at, seen_at, data_at};
+ghost use Rattle.rules.specs.PortData.{direction_at, effective_at, value_at, pins_at, path_at, seen_at, data_at};
 ghost use Rattle.levels.specs.Outputs.{with_outputs};
 ghost use Rattle.levels.specs.Looks.{looks_of};
 
@@ -160,29 +160,13 @@ struct Face {
     value: u8,
 }
 
-impl Face {
-    // The path value, whose input's pin shows the outside level.
-    fn path(self) -> u8
-        ensures { result ≡ path_of self.port self.port.outside self.value }
-    {
-        port::path(self.port, self.port.outside, self.value)
-    }
-}
-
-// Port p as it stands: with its own settings where no port has a handshake.
-fn face_of(d: Device, p: usize) -> Face
+// Port p, where a port has a handshake.
+fn handshake_face(d: Device, p: usize) -> Face
     ensures { (result.port ≡ effective_at d p) × (result.value ≡ value_at d p) }
 {
-    if handshake::any(d) {
-        return Face {
-            port: handshake::effective(d, p),
-            value: value_at(d, p),
-        };
-    }
-    let port = port_at(d, p);
     Face {
-        port,
-        value: with_outputs(d, p, port.output),
+        port: handshake::effective(d, p),
+        value: value_at(d, p),
     }
 }
 
@@ -190,23 +174,47 @@ fn face_of(d: Device, p: usize) -> Face
 pub fn pins_at(d: Device, p: usize) -> u8
     ensures { result ≡ pins_at d p }
 {
-    let f = face_of(d, p);
-    port::pins(port_enabled(d, p), f.port, f.value)
+    let enabled = port_enabled(d, p);
+    if handshake::any(d) {
+        // The copy is made here, so that the way without handshakes makes none; so below.
+        let e = d;
+        let f = handshake_face(e, p);
+        return port::pins(enabled, f.port, f.value);
+    }
+    let q = port_at(d, p);
+    port::pins(enabled, q, with_outputs(d, p, q.output))
+}
+
+// Where no port has a handshake: the path value of port p, whose input's pin shows the outside level.
+// Stays: one face for ports with and without a handshake was tried, and `trace` took 28% more instructions (docs/COSTS.md, "Speed").
+#[tactic(auto, unfolding(rules::specs::PortData::path_at, rules::specs::PortData::pins_at))]
+fn own_path(d: Device, p: usize) -> u8
+    requires { (handshakes (pattern_at d 0) || handshakes (pattern_at d 1)) ≡ false }
+    ensures { result ≡ path_at d p }
+{
+    let q = port_at(d, p);
+    port::path(q, q.outside, with_outputs(d, p, q.output))
 }
 
 #[tactic(auto, unfolding(rules::specs::PortData::path_at, rules::specs::PortData::pins_at))]
 pub fn path_at(d: Device, p: usize) -> u8
     ensures { result ≡ path_at d p }
 {
-    face_of(d, p).path()
+    if handshake::any(d) {
+        let e = d;
+        let f = handshake_face(e, p);
+        let r = f.port;
+        return port::path(r, r.outside, f.value);
+    }
+    own_path(d, p)
 }
 
 #[tactic(auto, unfolding(rules::specs::PortData::seen_at))]
 pub fn seen_at(d: Device, p: usize) -> u8
     ensures { result ≡ seen_at d p }
 {
-    let f = face_of(d, p);
-    port::seen(port_enabled(d, p), f.port, f.path())
+    let q = effective_at(d, p);
+    port::seen(port_enabled(d, p), q, path_at(d, p))
 }
 
 // What a step compares: the path values of ports B and C, which have the counters' lines, and what the patterns of A and B see.
@@ -218,17 +226,51 @@ pub struct Looks {
     pub seen_b: u8,
 }
 
+// Where no port has a handshake: what port p, with that path value, sees.
+// Stays: one face for ports with and without a handshake was tried, and `trace` took 28% more instructions (docs/COSTS.md, "Speed").
+#[tactic(auto, unfolding(rules::specs::PortData::seen_at))]
+fn own_seen(d: Device, p: usize, path: u8) -> u8
+    requires { ((handshakes (pattern_at d 0) || handshakes (pattern_at d 1)) ≡ false) × (path ≡ path_at d p) }
+    ensures { result ≡ seen_at d p }
+{
+    let q = port_at(d, p);
+    port::seen(port_enabled(d, p), q, path)
+}
+
+// Stays: one face for ports with and without a handshake was tried, and `trace` took 28% more instructions (docs/COSTS.md, "Speed").
+fn own_looks(d: Device) -> Looks
+    requires { (handshakes (pattern_at d 0) || handshakes (pattern_at d 1)) ≡ false }
+    ensures { result ≡ looks_of d }
+{
+    let a = own_path(d, 0);
+    let b = own_path(d, 1);
+    Looks {
+        b,
+        c: own_path(d, 2),
+        seen_a: own_seen(d, 0, a),
+        seen_b: own_seen(d, 1, b),
+    }
+}
+
+fn all_looks(d: Device) -> Looks
+    ensures { result ≡ looks_of d }
+{
+    Looks {
+        b: path_at(d, 1),
+        c: path_at(d, 2),
+        seen_a: seen_at(d, 0),
+        seen_b: seen_at(d, 1),
+    }
+}
+
 pub fn look(d: Device) -> Looks
     ensures { result ≡ looks_of d }
 {
-    let f = face_of(d, 1);
-    let b = f.path();
-    Looks {
-        b,
-        c: path_at(d, 2),
-        seen_a: seen_at(d, 0),
-        seen_b: port::seen(port_enabled(d, 1), f.port, b),
+    if handshake::any(d) {
+        let e = d;
+        return all_looks(e);
     }
+    own_looks(d)
 }
 
 #[tactic(auto, unfolding(rules::specs::PortData::data_at))]
