@@ -98,7 +98,7 @@ pub struct Transfer {
 }
 
 // The interrupt lines as they are stored: INT, IEO, and the place of the highest requester in the order CT3, A, CT2, B, CT1, 1 to 5, 0 if none requests.
-#[derive(Clone, Copy, PartialEq, Eq)]
+#[derive(Clone, Copy, Default, PartialEq, Eq)]
 pub struct Lines {
     pub int: bool,
     pub ieo: bool,
@@ -229,7 +229,7 @@ pub struct Report {
 
 // The answer to an event.
 // Stays: `code` is a number, since paper 01 says that a code answers, and C gets it as a byte.
-#[derive(Clone, Copy)]
+#[derive(Clone, Copy, Default, PartialEq, Eq)]
 pub struct Answer {
     pub code: u8,
     pub value: u8,

@@ -35,8 +35,9 @@ pub(crate) fn put(q: Port, direction: u8, p: usize, b: u8) -> Port
 {
     let m = opened(p, b);
     let through = m & (direction ^ 255);
-    let mut e = q;
-    e.output = (b & through) | (q.output & (through ^ 255));
-    e.catcher = q.catcher & ((m & (b ^ 255)) ^ 255);
-    e
+    Port {
+        output: (b & through) | (q.output & (through ^ 255)),
+        catcher: q.catcher & ((m & (b ^ 255)) ^ 255),
+        ..q
+    }
 }

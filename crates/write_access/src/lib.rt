@@ -19,9 +19,7 @@ fn write_master(d: Device, b: u8) -> Device
     if b % 2 == 1 {
         return record::reset(d);
     }
-    let mut e = d;
-    e.master = b;
-    e
+    Device { master: b, ..d }
 }
 
 // A counter whose enable is written.
@@ -32,11 +30,12 @@ fn enable(v: bool, c: Counter) -> Counter
     if v {
         return c;
     }
-    let mut off = c;
-    off.cip = false;
-    off.half = false;
-    off.pulse = false;
-    off
+    Counter {
+        cip: false,
+        half: false,
+        pulse: false,
+        ..c
+    }
 }
 
 // What a port holds, where its enable is written.
@@ -91,10 +90,10 @@ fn command_counter(d: Device, i: Place<3>, b: u8) -> Device
 }
 
 #[tactic(auto, unfolding(rules::specs::Access::data_written))]
-fn write_data(d: Device, p: usize, b: u8) -> Device
-    requires { p < 3 }
+fn write_data(d: Device, p: Place<3>, b: u8) -> Device
     ensures { result ≡ data_written d p b }
 {
+    let p = p.index();
     if levels::outputs_at(d, p) & levels::port_enabled(d, p) {
         return moves::stored(d, p, b);
     }
@@ -119,7 +118,7 @@ fn write_kind(d: Device, k: Kind, b: u8) -> Device
         Kind::Special(p) => e.ports[p].special = data::keep(p, b),
         Kind::PortCommand(p) => e = command_port(d, Place { at: p }, b),
         Kind::CounterCommand(i) => e = command_counter(d, Place { at: i }, b),
-        Kind::Data(p) => e = write_data(d, p, b),
+        Kind::Data(p) => e = write_data(d, Place { at: p }, b),
         Kind::Current(_, _) => {}
         Kind::Constant(i, high) => {
             e.counters[i].constant = basics::with_byte(high, d.counters[i].constant, b);
