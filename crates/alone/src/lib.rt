@@ -18,7 +18,7 @@ use theorems::Part;
 // The highest number that a counter holds.
 const LAST: u16 = 65535;
 
-// Stays: one bit of the mode, as `counters` has it; a call of that would be as long.
+// Stays: `counters` has the same test for itself; to call it this crate would need that crate, and a public function more.
 fn is_square(c: Counter) -> bool
     ensures { result ≡ square c }
 {

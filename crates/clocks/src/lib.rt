@@ -52,8 +52,8 @@ fn comes(d: Device, i: Place<3>) -> bool
     levels::counter_on(d.config, i) & c.gcb & gate_open(d, i, gate_input) & !count_input
 }
 
-// Does nothing: what the types say of a counter, for the proof of `parts`.
-fn words(c: Counter)
+// Does nothing when it runs: its clause hands the proof of `parts` that the count and the constant have sixteen bits, as the formula of a counter asks.
+fn sixteen_bits(c: Counter)
     ensures { (c.count < 65536) × (c.constant < 65536) }
 {}
 
@@ -136,9 +136,9 @@ fn parts(n: u32, d: Device) -> Ran
     requires { Caught d × (reset d ≡ false) }
     ensures { result ≡ ran_of n d }
 {
-    words(d.counters[0]);
-    words(d.counters[1]);
-    words(d.counters[2]);
+    sixteen_bits(d.counters[0]);
+    sixteen_bits(d.counters[1]);
+    sixteen_bits(d.counters[2]);
     let k = timer_clocks(n, d.phase);
     let one = part(d, Place { at: 0 }, k);
     let three = part(d, Place { at: 2 }, k);

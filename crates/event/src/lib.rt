@@ -7,23 +7,18 @@ ghost use Rattle.std.specs.Prelude.{◌≡◌};
 ghost use Rattle.rules.specs.Events.{relit, unsound_answer, outcome_of, event_of};
 ghost use Rattle.event.specs.Known.{known_of};
 
-use rules::{Answer, Device, Effect, Event, Outcome, Refusal, Report};
+use rules::{Answer, Device, Effect, Event, Outcome, Refusal};
 
 // The answer to a record that is not sound.
+#[tactic(auto, unfolding(rules::specs::Refusals::refusal_number))]
 fn unsound(d: Device) -> Outcome<Device>
     ensures { result ≡ record { device = d; answer = unsound_answer } }
 {
     Outcome {
         device: d,
         answer: Answer {
-            code: 9,
-            value: 0,
-            a: 0,
-            b: 0,
-            c: 0,
-            int: false,
-            ieo: false,
-            report: Report::default(),
+            code: Refusal::Unsound.number(),
+            ..Answer::default()
         },
     }
 }

@@ -19,13 +19,7 @@ fn unsound(z: Z8536) -> Outcome<Z8536>
         device: z,
         answer: Answer {
             code: Refusal::Unsound.number(),
-            value: 0,
-            a: 0,
-            b: 0,
-            c: 0,
-            int: false,
-            ieo: false,
-            report: Report::default(),
+            ..Answer::default()
         },
     }
 }

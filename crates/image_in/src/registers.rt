@@ -119,10 +119,6 @@ pub(crate) fn read_registers(version: u8, b: &[u8]) -> Device
         sources: sources_in(b),
         iei: false,
         phase: false,
-        lines: Lines {
-            int: false,
-            ieo: false,
-            place: 0,
-        },
+        lines: Lines::default(),
     }
 }

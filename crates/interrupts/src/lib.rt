@@ -19,7 +19,7 @@ fn mie(d: Device) -> bool
 }
 
 // The place of the highest requester: 1 to 5, or 0.
-// Stays: a number with 0 for none, as the record stores it (place_of) and an image and C have it.
+// Stays: a number with 0 for none, as the record stores it (rules/Interrupts.place_of) and C gets it (host/Bytes.line_bytes).
 #[tactic(auto, unfolding(rules::specs::Interrupts::place_of))]
 fn place(d: Device) -> u8
     ensures { (result ≡ place_of d) × (result ≤ 5) }

@@ -81,10 +81,10 @@ fn pmf_only(enabled: bool, p: Pattern) -> bool
 
 // A catcher is at an input, whose path value is the outside level XOR polarity.
 #[tactic(auto, unfolding(rules::specs::Sound::sound_port_at, rules::specs::PortData::path_at, rules::specs::PortData::pins_at))]
-fn sound_port_at(d: Device, p: usize) -> bool
-    requires { p < 3 }
+fn sound_port_at(d: Device, p: Place<3>) -> bool
     ensures { result ≡ sound_port_at d p }
 {
+    let p = p.index();
     let q = levels::effective_at(d, p);
     sound_port(levels::port_enabled(d, p), q, q.outside ^ q.polarity)
 }
@@ -93,7 +93,10 @@ fn sound_port_at(d: Device, p: usize) -> bool
 fn sound_ports(d: Device) -> bool
     ensures { result ≡ sound_ports d }
 {
-    four_bits(d.ports[2]) & sound_port_at(d, 0) & sound_port_at(d, 1) & sound_port_at(d, 2)
+    four_bits(d.ports[2])
+        & sound_port_at(d, Place { at: 0 })
+        & sound_port_at(d, Place { at: 1 })
+        & sound_port_at(d, Place { at: 2 })
 }
 
 #[tactic(auto, unfolding(rules::specs::Sound::sound_patterns))]

@@ -25,7 +25,7 @@ small d x y z =
 pub returns-then-all_apart : goal.returns-then-all_apart
 unfolding by_division alones_after
 returns-then-all_apart c =
-    let few = small c.args.d c.words.ensures c.words-2.ensures c.words-3.ensures in
+    let few = small c.args.d c.sixteen_bits.ensures c.sixteen_bits-2.ensures c.sixteen_bits-3.ensures in
     let shaped : Shaped c.args.d = record { vectors = search rules; ports = search (rules, of_map); patterns = search (rules, of_map); transfers = search (rules, of_map); counters = search (rules, of_map); sources = search (rules, of_map) } in
     simp (c.with.ensures, c.side-b.ensures, c.part-two.ensures, c.side-a.ensures, c.part-three.ensures, c.part-one.ensures, c.timer_clocks-k.ensures)
     (sym (formula c.args.d c.args.n shaped few c.requires.0 c.requires.1 (sym c.all_apart.ensures ∙ c.if-all_apart.true)))
@@ -33,7 +33,7 @@ returns-then-all_apart c =
 pub returns : goal.returns
 unfolding besides
 returns c =
-    let few = small c.args.d c.words.ensures c.words-2.ensures c.words-3.ensures in
+    let few = small c.args.d c.sixteen_bits.ensures c.sixteen_bits-2.ensures c.sixteen_bits-3.ensures in
     let shaped : Shaped c.args.d = record { vectors = search rules; ports = search (rules, of_map); patterns = search (rules, of_map); transfers = search (rules, of_map); counters = search (rules, of_map); sources = search (rules, of_map) } in
     simp (c.with-2.ensures, c.placed-two.ensures, c.linked-pair.ensures, c.side-a.ensures, c.part-three.ensures, c.part-one.ensures, c.timer_clocks-k.ensures)
     (sym (ran-besides c.args.d c.args.n shaped few c.requires.0 c.requires.1))
