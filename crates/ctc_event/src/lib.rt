@@ -73,7 +73,7 @@ fn outcome(code: u8, f: CtcEffect) -> Outcome<Ctc, CtcAnswer>
     ensures { result ≡ outcome_ctc code f }
 {
     let d = f.device;
-    // Stays: an array of a field is copied to a name before a struct takes it, as the check asks.
+    // Stays: tried with the field itself in the literal, and the check refused it: a field that is an array goes into a literal by a name of its own.
     let zeros = f.zeros;
     Outcome {
         device: d,

@@ -4,8 +4,8 @@ use Rattle.ctc_event.proofs.effects.effect_of.Goals as goal
 pub overflow_cast-e-in-1 : goal.overflow_cast-e-in-1
 overflow_cast-e-in-1 c = record { fits = a_byte _ _ c.requires c.in-1.is }
 
-pub write-requires : goal.write-requires
-write-requires c = written-channel _ _ c.requires c.in-1.is
+pub invariant_of-write : goal.invariant_of-write
+invariant_of-write c = written-channel _ _ c.requires c.in-1.is
 
 pub bounds-d-e : goal.bounds-d-e
 bounds-d-e c = read-channel _ _ c.requires c.in-2.is
