@@ -232,16 +232,13 @@ pub(crate) fn run(f: Stage, x: Pair, k: u32) -> Pair
 {
     let mut now = x;
     let mut left = k;
-    let mut leaps = 0u32;
-    // Stays: it ends by the clocks that are left or by the leaps, whichever comes first.
-    while (0 < left) & (leaps < A_WHILE) {
+    for _ in 0..A_WHILE {
+        if left == 0 {
+            return now;
+        }
         let l = leapt(f, now, left);
         now = l.pair;
         left -= l.clocks;
-        leaps += 1;
-    }
-    if left == 0 {
-        return now;
     }
     by_rounds(f, now, left)
 }

@@ -14,13 +14,10 @@ use counters::Inputs;
 use rules::{Device, Pattern};
 
 // Whether two records have the same catchers.
-// Stays: one field of each of three ports; a == of the ports would compare all six.
 fn same_catchers(e: Device, d: Device) -> bool
     ensures { result ≡ same_catchers e d }
 {
-    (e.ports[0].catcher == d.ports[0].catcher)
-        & (e.ports[1].catcher == d.ports[1].catcher)
-        & (e.ports[2].catcher == d.ports[2].catcher)
+    e.ports.map(|q| q.catcher) == d.ports.map(|q| q.catcher)
 }
 
 // Whether the catchers have caught what there is to catch.
