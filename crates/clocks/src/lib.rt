@@ -103,8 +103,7 @@ fn side(d: Device, p: Place<2>, k: u32) -> Side
 fn all_apart(d: Device) -> bool
     ensures { result ≡ apart d }
 {
-    let q = d.patterns[1];
-    let pattern = q.mode / 2 % 4 != 0;
+    let pattern = d.patterns[1].mode / 2 % 4 != 0;
     let one = d.counters[0].mode / 64 % 2 == 1;
     let two = d.counters[1].mode / 64 % 2 == 1;
     (d.config % 4 == 0) & (!pattern | !(one | two))

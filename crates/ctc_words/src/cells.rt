@@ -7,8 +7,7 @@ use ctc_rules::Channel;
 use texts::Text;
 use words::{bit_cell, either, number_cell, yes_cell};
 
-// Stays: label and cell go by a row's number, as the definitions do (ctc_words/Shown.labels, ctc_words/Shown.channel_cell); an enum of
-// facts would list each a third time.
+// Stays: by a row's number, as the definitions go (ctc_words/Shown.labels, ctc_words/Shown.channel_cell); an enum would list each fact a third time.
 pub(crate) const LABELS: [[u8; 16]; 12] = [
     *b"mode            ",
     *b"factor          ",

@@ -24,8 +24,7 @@ const RETRIGGER: u8 = 2;
 // How many facts a counter has.
 pub const ROWS: usize = 16;
 
-// Stays: label and cell go by a row's number, as the definitions do (words/Shown.counter_labels, words/Shown.counter_cell); an enum of
-// facts would list each a third time.
+// Stays: by a row's number, as the definitions go (words/Shown.counter_labels, words/Shown.counter_cell); an enum would list each fact a third time.
 const LABELS: [[u8; 16]; ROWS] = [
     *b"enabled         ",
     *b"mode            ",
@@ -116,6 +115,7 @@ fn counter_column(t: Text, d: Device, i: Place<3>, row: usize) -> Text
     counter_cell(t, d.version, enabled, d.counters[i.index()], row)
 }
 
+// Stays: its twins fold other parts by other cells; a closure for the cell would carry each cell's clause to the call.
 #[tactic(auto, using(texts::proofs::Typing::typed_append), unfolding(texts::specs::Kept::typed, crate::specs::Shown::counter_line, texts::specs::Spelled::spelled, crate::proofs::Columns::columns))]
 pub(crate) fn counter_line(d: Device, row: usize) -> Text
     ensures { result ≡ typed no_text (counter_line d row) }

@@ -20,8 +20,7 @@ pub const PATTERN_ROWS: usize = 5;
 
 pub const TRANSFER_ROWS: usize = 5;
 
-// Stays: label and cell go by a row's number, here and below, as the definitions do (words/Shown.port_labels, words/Shown.port_cell); an
-// enum of facts would list each a third time.
+// Stays: by a row's number, here and below, as the definitions go (words/Shown.port_labels, words/Shown.port_cell); an enum would list each fact a third time.
 const PORT_LABELS: [[u8; 16]; PORT_ROWS] = [
     *b"enabled         ",
     *b"direction       ",
@@ -49,6 +48,7 @@ fn port_cell(t: Text, d: Device, p: Place<3>, row: usize) -> Text
     }
 }
 
+// Stays: its twins fold other parts by other cells; a closure for the cell would carry each cell's clause to the call.
 #[tactic(auto, using(texts::proofs::Typing::typed_append), unfolding(texts::specs::Kept::typed, crate::specs::Shown::port_line, texts::specs::Spelled::spelled, crate::proofs::Columns::columns))]
 pub(crate) fn port_line(d: Device, row: usize) -> Text
     ensures { result ≡ typed no_text (port_line d row) }
@@ -110,6 +110,7 @@ fn pattern_cell(t: Text, d: Device, p: Place<2>, row: usize) -> Text
     }
 }
 
+// Stays: its twins fold other parts by other cells; a closure for the cell would carry each cell's clause to the call.
 #[tactic(auto, using(texts::proofs::Typing::typed_append), unfolding(texts::specs::Kept::typed, crate::specs::Shown::pattern_line, texts::specs::Spelled::spelled, crate::proofs::Columns::columns))]
 pub(crate) fn pattern_line(d: Device, row: usize) -> Text
     ensures { result ≡ typed no_text (pattern_line d row) }
@@ -143,6 +144,7 @@ fn transfer_cell(t: Text, h: Transfer, row: usize) -> Text
     }
 }
 
+// Stays: its twins fold other parts by other cells; a closure for the cell would carry each cell's clause to the call.
 #[tactic(auto, using(texts::proofs::Typing::typed_append), unfolding(texts::specs::Kept::typed, crate::specs::Shown::transfer_line, texts::specs::Spelled::spelled, crate::proofs::Columns::columns))]
 pub(crate) fn transfer_line(d: Device, row: usize) -> Text
     ensures { result ≡ typed no_text (transfer_line d row) }

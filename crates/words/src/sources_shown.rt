@@ -10,8 +10,7 @@ use texts::Text;
 // How many facts a source has.
 pub const ROWS: usize = 5;
 
-// Stays: label and flag go by a row's number, as the definitions do (words/Shown.source_labels, words/Shown.source_cell); an enum of
-// facts would list each a third time.
+// Stays: by a row's number, as the definitions go (words/Shown.source_labels, words/Shown.source_cell); an enum would list each fact a third time.
 const LABELS: [[u8; 16]; ROWS] = [
     *b"IE              ",
     *b"IP              ",
@@ -28,6 +27,7 @@ fn source_cell(t: Text, s: Source, row: usize) -> Text
     bit_cell(t, flags.get(row).copied().unwrap_or(false))
 }
 
+// Stays: its twins fold other parts by other cells; a closure for the cell would carry each cell's clause to the call.
 #[tactic(auto, using(texts::proofs::Typing::typed_append), unfolding(texts::specs::Kept::typed, crate::specs::Shown::source_line, texts::specs::Spelled::spelled, crate::proofs::Columns::columns))]
 pub(crate) fn source_line(d: Device, row: usize) -> Text
     ensures { result ≡ typed no_text (source_line d row) }
