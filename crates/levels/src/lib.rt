@@ -186,7 +186,7 @@ pub fn pins_at(d: Device, p: usize) -> u8
 }
 
 // Where no port has a handshake: the path value of port p, whose input's pin shows the outside level.
-// Stays: one face for ports with and without a handshake was tried, and `trace` took 28% more instructions (docs/COSTS.md, "Speed").
+// Stays: tried as one function with the way of handshakes, and `trace` took 2.84 times plain C, where 2.5 is the bar (docs/COSTS.md, "Speed").
 #[tactic(auto, unfolding(rules::specs::PortData::path_at, rules::specs::PortData::pins_at))]
 fn own_path(d: Device, p: usize) -> u8
     requires { (handshakes (pattern_at d 0) || handshakes (pattern_at d 1)) ≡ false }
@@ -227,7 +227,7 @@ pub struct Looks {
 }
 
 // Where no port has a handshake: what port p, with that path value, sees.
-// Stays: one face for ports with and without a handshake was tried, and `trace` took 28% more instructions (docs/COSTS.md, "Speed").
+// Stays: tried as one function with the way of handshakes, and `trace` took 2.84 times plain C, where 2.5 is the bar (docs/COSTS.md, "Speed").
 #[tactic(auto, unfolding(rules::specs::PortData::seen_at))]
 fn own_seen(d: Device, p: usize, path: u8) -> u8
     requires { ((handshakes (pattern_at d 0) || handshakes (pattern_at d 1)) ≡ false) × (path ≡ path_at d p) }
@@ -237,7 +237,7 @@ fn own_seen(d: Device, p: usize, path: u8) -> u8
     port::seen(port_enabled(d, p), q, path)
 }
 
-// Stays: one face for ports with and without a handshake was tried, and `trace` took 28% more instructions (docs/COSTS.md, "Speed").
+// Stays: tried as one function with the way of handshakes, and `trace` took 2.84 times plain C, where 2.5 is the bar (docs/COSTS.md, "Speed").
 fn own_looks(d: Device) -> Looks
     requires { (handshakes (pattern_at d 0) || handshakes (pattern_at d 1)) ≡ false }
     ensures { result ≡ looks_of d }
