@@ -47,8 +47,6 @@ fn words(a: u16, b: u16, c: u16) -> [u8; 6]
 fn front(d: Device) -> [u8; 16]
     ensures { result ≡ registers_from d 0x00 16 }
 {
-    let a = d.ports[0];
-    let b = d.ports[1];
     let c = d.ports[2];
     let v = d.vectors;
     let mut r = [0; 16];
@@ -67,7 +65,11 @@ fn front(d: Device) -> [u8; 16]
         ],
     );
     basics::lay(&mut r, 0x08, &commands(d));
-    basics::lay(&mut r, 0x0D, &[a.output, b.output, c.output]);
+    basics::lay(
+        &mut r,
+        0x0D,
+        &[d.ports[0].output, d.ports[1].output, c.output],
+    );
     r
 }
 

@@ -26,19 +26,16 @@ pub(crate) fn counts(d: Device) -> [u8; 9]
     let a = d.counters[0];
     let b = d.counters[1];
     let c = d.counters[2];
-    let ct3 = d.sources[Source::CT3];
-    let ct2 = d.sources[Source::CT2];
-    let ct1 = d.sources[Source::CT1];
     [
         basics::byte_in(true, a.count),
         basics::byte_in(false, a.count),
-        counter_flags(a.half, ct1.hidden, a.pulse),
+        counter_flags(a.half, d.sources[Source::CT1].hidden, a.pulse),
         basics::byte_in(true, b.count),
         basics::byte_in(false, b.count),
-        counter_flags(b.half, ct2.hidden, b.pulse),
+        counter_flags(b.half, d.sources[Source::CT2].hidden, b.pulse),
         basics::byte_in(true, c.count),
         basics::byte_in(false, c.count),
-        counter_flags(c.half, ct3.hidden, c.pulse),
+        counter_flags(c.half, d.sources[Source::CT3].hidden, c.pulse),
     ]
 }
 
@@ -50,8 +47,6 @@ pub(crate) fn pins(d: Device) -> [u8; 7]
     let a = d.ports[0];
     let b = d.ports[1];
     let c = d.ports[2];
-    let source_a = d.sources[Source::A];
-    let source_b = d.sources[Source::B];
     [
         a.outside,
         b.outside,
@@ -59,7 +54,7 @@ pub(crate) fn pins(d: Device) -> [u8; 7]
         a.catcher,
         b.catcher,
         c.catcher,
-        flags(source_a.hidden, source_b.hidden),
+        flags(d.sources[Source::A].hidden, d.sources[Source::B].hidden),
     ]
 }
 

@@ -96,7 +96,7 @@ fn too_long(measure: Measure, device: Device, e: Event) -> Measured
 }
 
 // The measure after an accepted event, which leaves the record f.
-// Stays: from d to f, by the measure m, as the definitions take them (measure/Measure.stepped, measure/Measure.ticked).
+// Stays: f is the record that the event call left, handed on so that its clocks are not run twice; the definition runs them (measure/Measure.ticked).
 #[tactic(auto, unfolding(crate::specs::Measure::measure_of))]
 fn accepted(m: Measure, d: Device, e: Event, f: Device) -> Measure
     requires { (code_of d e ≡ 0) × (past m e ≡ false) × (f ≡ (event_of d e).device) }

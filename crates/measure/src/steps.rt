@@ -25,11 +25,10 @@ fn clears_by_data(d: Device, e: Event, p: Place<2>) -> bool
 {
     let i = p.index();
     let q = d.patterns[i];
-    let t = d.transfers[i];
     let itb = q.mode / 32 % 2 == 1;
     let reads = (e.kind == Event::R) & ports::inputs(q);
     let writes = (e.kind == Event::W) & ports::outputs(q) & levels::port_enabled(d, i);
-    (reads | writes) & (e.a == 0x0D + (i as u32)) & (!itb | t.pair)
+    (reads | writes) & (e.a == 0x0D + (i as u32)) & (!itb | d.transfers[i].pair)
 }
 
 // Source k in a step from d to f.
@@ -78,7 +77,7 @@ pub(crate) fn stepped(e: Event, d: Device, f: Device, m: Measure) -> Measure
 }
 
 // Source k over the n clocks of a T, from d to f.
-// Stays: from d to f, by the measure m, as the definitions take them (measure/Measure.stepped, measure/Measure.ticked).
+// Stays: f is the record that the event call left, handed on so that its clocks are not run twice; the definition runs them (measure/Measure.ticked).
 #[tactic(auto, unfolding(rules::specs::Interrupts::relined))]
 fn over(k: Place<5>, n: u32, d: Device, f: Device, m: Measure) -> Wait
     requires { (0 < n) × (f ≡ relined (ran_of n d).device) × (m.clocks + n ≤ most_clocks) }
@@ -97,7 +96,7 @@ fn over(k: Place<5>, n: u32, d: Device, f: Device, m: Measure) -> Wait
 }
 
 // T n, from d to f.
-// Stays: from d to f, by the measure m, as the definitions take them (measure/Measure.stepped, measure/Measure.ticked).
+// Stays: f is the record that the event call left, handed on so that its clocks are not run twice; the definition runs them (measure/Measure.ticked).
 #[tactic(auto, unfolding(crate::specs::Measure::ticked))]
 pub(crate) fn ticked(n: u32, d: Device, f: Device, m: Measure) -> Measure
     requires { (f ≡ relined (ran_of n d).device) × (m.clocks + n ≤ most_clocks) }
