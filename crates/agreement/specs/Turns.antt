@@ -1,7 +1,7 @@
 -- A line of TRACE and one of BOARD, as they are kept. "The bench": "TRACE is an input of `trace`; BOARD has the board's answers, one line
 -- for each".
 -- Assumes nothing.
-use Rattle.std.specs.Prelude.{ℕ, ◌+◌, ◌&&◌, not, List, ltb, length, take, drop, if◌then◌else◌, ◌==◌}
+use Rattle.std.specs.Prelude.{ℕ, ◌+◌, ◌&&◌, not, Option, Some, None, List, ltb, length, take, drop, if◌then◌else◌, ◌==◌}
 use Rattle.chip.specs.declared.Chip.{Chip}
 use Rattle.rules.specs.declared.Answer.{Answer}
 use Rattle.rules.specs.declared.Outcome.{Outcome}
@@ -28,11 +28,11 @@ beside_of d event board =
     }
 
 -- ---- lines that are read where they stand, in what was read of both files
--- one line more of both: the same, if one of them does not end there, or they do not agree
-unfoldable pub onward_of : Abreast → List ℕ → List ℕ → Abreast
+-- one line more of both, if both end there and agree
+unfoldable pub onward_of : Abreast → List ℕ → List ℕ → Option Abreast
 onward_of a read measured =
     let m = drop a.event read in
     let o = event_chip a.device (event_in (line_of (take (feed_at m) m))) in
     let next = agreed_to o.answer measured a.board in
     if ltb (feed_at m) (length m) && ltb a.agreed 18446744073709551615 && not (next == a.board)
-    then record { device = o.device; event = a.event + feed_at m + 1; board = next; agreed = a.agreed + 1 } else a
+    then Some (record { device = o.device; event = a.event + feed_at m + 1; board = next; agreed = a.agreed + 1 }) else None

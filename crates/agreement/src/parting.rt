@@ -45,25 +45,26 @@ pub(crate) struct Abreast {
     pub agreed: u64,
 }
 
-// One line more of both, read where they stand; the same, if one of them does not end there, or they do not agree.
-fn onward(a: Abreast, read: &[u8], measured: &[u8]) -> Abreast
-    ensures { result ≡ onward_of a read.now measured.now }
+// One line more of both, read where they stand, if both end there and agree.
+fn onward(a: &Abreast, read: &[u8], measured: &[u8]) -> Option<Abreast>
+    ensures { result ≡ onward_of a.now read.now measured.now }
 {
     let i = a.event;
     let e = lines::line_end(read, i);
     if (e < read.len()) & (a.agreed < u64::MAX) {
         let o = a.device.event(lines::event_of(&read[i..e]));
         let next = bench_lines::agreed_to(o.answer, measured, a.board);
-        if next != a.board {
-            return Abreast {
-                device: o.device,
-                event: e + 1,
-                board: next,
-                agreed: a.agreed + 1,
-            };
+        if next == a.board {
+            return None;
         }
+        return Some(Abreast {
+            device: o.device,
+            event: e + 1,
+            board: next,
+            agreed: a.agreed + 1,
+        });
     }
-    a
+    None
 }
 
 // All lines that agree and end in what was read of both.
@@ -72,11 +73,8 @@ fn onward_all(start: Abreast, read: &[u8], measured: &[u8]) -> Abreast
     ensures { start.agreed ≤ result.agreed }
 {
     let mut a = start;
-    let mut going = true;
-    while going {
-        let before = a.agreed;
-        a = onward(a, read, measured);
-        going = a.agreed != before;
+    while let Some(next) = onward(&a, read, measured) {
+        a = next;
     }
     a
 }
@@ -89,6 +87,21 @@ fn ready(r: Reader, buf: &[u8]) -> usize
         return r.end;
     }
     0
+}
+
+// All lines that agree and end in what two readers have read, as far as they may be read as they stand.
+fn onward_read(
+    start: Abreast,
+    events: Reader,
+    answers: Reader,
+    read: &[u8],
+    measured: &[u8],
+) -> Abreast
+    ensures { start.agreed ≤ result.agreed }
+{
+    let i = ready(events, read);
+    let j = ready(answers, measured);
+    onward_all(start, &read[..i], &measured[..j])
 }
 
 // A label as `show` has them, and a line as it stands in its file.
@@ -126,6 +139,26 @@ fn print_parted<W: Write>(
     image_files::show_device(d, out);
 }
 
+// The device after a line of both that agrees; else how they part.
+fn agree<W: Write>(
+    d: &Vetted,
+    line: u64,
+    event: Text,
+    board: Text,
+    out: &mut W,
+) -> Result<Vetted, Parting> {
+    let t = beside(d, event, board);
+    let Some(compared) = t.compared else {
+        return Err(Parting::Unreadable(line));
+    };
+    if !compared.agrees {
+        let before = d.device();
+        print_parted(out, line, before, event, board, t.model, compared.differs);
+        return Err(Parting::Apart);
+    }
+    Ok(t.device)
+}
+
 // The lines of two inputs side by side, up to the first that does not agree, which is printed, or that one of them has not. (A
 // proved loop has to end, and nothing says that the input does: its turns are counted, up to a number that no run reaches.) Whether the
 // device is sound is asked once.
@@ -152,32 +185,21 @@ pub(crate) fn part<R: Read, S: Read, W: Write>(
             (None, Some(_)) => return Parting::NoEvent(line),
             (None, None) => return Parting::Ended(agreed),
         };
-        let t = beside(&device, event, board);
-        let Some(compared) = t.compared else {
-            return Parting::Unreadable(line);
+        let next = match agree(&device, line, event, board, out) {
+            Ok(next) => next,
+            Err(parting) => return parting,
         };
-        if !compared.agrees {
-            let before = device.device();
-            print_parted(out, line, before, event, board, t.model, compared.differs);
-            return Parting::Apart;
-        }
         let start = Abreast {
-            device: t.device,
+            device: next,
             event: n.reader.at,
             board: m.reader.at,
             agreed: line,
         };
-        let i = ready(n.reader, &read);
-        let j = ready(m.reader, &measured);
-        let a = onward_all(start, &read[..i], &measured[..j]);
-        r = Reader {
-            at: a.event,
-            ..n.reader
-        };
-        s = Reader {
-            at: a.board,
-            ..m.reader
-        };
+        let a = onward_read(start, n.reader, m.reader, &read, &measured);
+        r = n.reader;
+        r.at = a.event;
+        s = m.reader;
+        s.at = a.board;
         device = a.device;
         agreed = a.agreed;
     }

@@ -17,7 +17,19 @@ use Rattle.agreement.proofs.parting.onward.Goals as goal
 
 pub returns-then-next-a : goal.returns-then-next-a
 returns-then-next-a c =
-    let a = c.args.a in
+    let a = c.args.a.now in
+    let read = c.args.read.now in
+    let measured = c.args.measured.now in
+    let m = drop a.event read in
+    let long : c.line_end-e.result - a.event ≡ feed_at m = omega (arith, c.line_end-e.ensures) in
+    let o : c.event-o.result ≡ told a read measured =
+    c.event-o.ensures ∙ ap (event_chip a.device) (c.event_of.ensures ∙ ap (λ (n : ℕ). event_in (line_of (take n m))) long) in
+    let n = c.agreed_to-next.ensures ∙ ap (λ (x : Outcome Chip Answer). agreed_to x.answer measured a.board) o in
+    stays a read measured (sym n ∙ c.if-next-a.true)
+
+pub returns-then-e-read : goal.returns-then-e-read
+returns-then-e-read c =
+    let a = c.args.a.now in
     let read = c.args.read.now in
     let measured = c.args.measured.now in
     let m = drop a.event read in
@@ -28,21 +40,9 @@ returns-then-next-a c =
     let tests = both _ _ c.if-e-read.true in
     let inside : c.line_end-e.result < length read = ltb-true _ _ tests.0 in
     let e = ap (λ (k : ℕ). k + 1) c.line_end-e.ensures in
-    (λ j. record { device = (o j).device; event = e j; board = n j; agreed = a.agreed + 1 })
-    ∙ went a read measured (omega (arith, inside, c.line_end-e.ensures, length-drop a.event read)) tests.1 (λ h. c.if-next-a.true (n ∙ h))
+    went a read measured (λ j. record { device = (o j).device; event = e j; board = n j; agreed = a.agreed + 1 })
+    (omega (arith, inside, c.line_end-e.ensures, length-drop a.event read)) tests.1 (λ h. c.if-next-a.false (n ∙ h))
 
-pub returns-else-next-a : goal.returns-else-next-a
-returns-else-next-a c =
-    let a = c.args.a in
-    let read = c.args.read.now in
-    let measured = c.args.measured.now in
-    let m = drop a.event read in
-    let long : c.line_end-e.result - a.event ≡ feed_at m = omega (arith, c.line_end-e.ensures) in
-    let o : c.event-o.result ≡ told a read measured =
-    c.event-o.ensures ∙ ap (event_chip a.device) (c.event_of.ensures ∙ ap (λ (n : ℕ). event_in (line_of (take n m))) long) in
-    let n = c.agreed_to-next.ensures ∙ ap (λ (x : Outcome Chip Answer). agreed_to x.answer measured a.board) o in
-    stays a read measured (sym n ∙ c.if-next-a.false)
-
-pub returns-else-e-read : goal.returns-else-e-read
-returns-else-e-read c =
-    not-gone c.args.a c.args.read.now c.args.measured.now c.line_end-e.result c.line_end-e.ensures c.if-e-read.false
+pub returns : goal.returns
+returns c =
+    not-gone c.args.a.now c.args.read.now c.args.measured.now c.line_end-e.result c.line_end-e.ensures c.if-e-read.false
