@@ -10,6 +10,7 @@ ghost use Rattle.event.specs.Known.{known_of};
 use rules::{Answer, Device, Effect, Event, Outcome, Refusal};
 
 // The answer to a record that is not sound.
+// Stays: the twin is of the other device; one for both would be a public call of `rules` for one literal.
 #[tactic(auto, unfolding(rules::specs::Refusals::refusal_number))]
 fn unsound(d: Device) -> Outcome<Device>
     ensures { result ≡ record { device = d; answer = unsound_answer } }

@@ -11,6 +11,7 @@ use rules::{Answer, Event, Outcome, Refusal, Report};
 use z8536::Z8536;
 
 // The answer to a record that is not sound.
+// Stays: the twin is of the other device; one for both would be a public call of `rules` for one literal.
 #[tactic(auto, unfolding(rules::specs::Refusals::refusal_number))]
 fn unsound(z: Z8536) -> Outcome<Z8536>
     ensures { result ≡ record { device = z; answer = unsound_answer } }
