@@ -49,18 +49,8 @@ fn with_digit(l: Line, c: u8) -> Line {
     m
 }
 
-// A digit's character.
-fn character(n: u8) -> u8
-    requires { n < 16 }
-{
-    if n < 10 {
-        return b'0' + n;
-    }
-    b'A' + (n - 10)
-}
-
 fn print_byte<W: Write>(out: &mut W, x: u8) {
-    let _ = out.write_all(&[character(x / 16), character(x % 16)]);
+    let _ = out.write_all(&[texts::glyph(x / 16), texts::glyph(x)]);
 }
 
 fn print_bytes<W: Write>(out: &mut W, b: &[u8]) {
