@@ -279,7 +279,6 @@ use Rattle.std.specs.declared.clone.Clone.{Ghosts}
 use Rattle.std.specs.Prelude.{Result, Some, None, if◌then◌else◌}
 use Rattle.promises.proofs.Verdicts.{verdict, told}
 use Rattle.promises.proofs.Promise.{OneAnswer, one_answer, OneResult, one-result, two-clauses}
-use Rattle.promises.proofs.Refused.{told_by, told-by}
 
 module _ {M : Type 1} (𝓤 : Ura M) where
   -- the calls that a host makes
@@ -566,12 +565,12 @@ module _ {M : Type 1} (𝓤 : Ura M) where
   pub refusals-admit : OneResult 𝓤 refusals·admit.ended refusals·admit.clauses
   refusals-admit =
       one_answer 𝓤 refusals·admit.ended refusals·admit.clauses (λ κs. Result Unit Refusal) (λ κs r x. r)
-      (λ κs a. told_by (code_of a.0 a.1.0)) (λ 𝓛 at_mem run κs a g r x. fact_mono 𝓤 _ _ (told-by r))
+      (λ κs a. verdict (code_of a.0 a.1.0)) (λ 𝓛 at_mem run κs a g r x. fact_mono 𝓤 _ _ (told r _))
 
   pub refusals-admit-known : OneResult 𝓤 refusals·admit-known.ended refusals·admit-known.clauses
   refusals-admit-known =
       one_answer 𝓤 refusals·admit-known.ended refusals·admit-known.clauses (λ κs. Result Unit Refusal) (λ κs r x. r)
-      (λ κs a. told_by (known_code a.0 a.1.0)) (λ 𝓛 at_mem run κs a g r x. fact_mono 𝓤 _ _ (told-by r))
+      (λ κs a. verdict (known_code a.0 a.1.0)) (λ 𝓛 at_mem run κs a g r x. fact_mono 𝓤 _ _ (told r _))
 
   pub refusals-sound : OneResult 𝓤 refusals·sound.ended refusals·sound.clauses
   refusals-sound = one-result 𝓤 refusals·sound.ended refusals·sound.clauses (λ κs a. sound_of a.0) refl
