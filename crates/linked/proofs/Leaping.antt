@@ -8,16 +8,35 @@ use native.Mathlib.Omega.{arith}
 use lib.ListN.{get_or}
 use lib.Dec.{eqb, ltb}
 use borrow.Author.Tests.{eqb-true, ltb-true}
-use Rattle.basics.proofs.Tests.{left, right, both}
+use Rattle.basics.proofs.Tests.{left, right, both, triple}
 use Rattle.rules.specs.declared.Counter.{Counter}
 use Rattle.rules.specs.declared.Source.{Source}
+use Rattle.rules.specs.Sound.{same_source, same_counter}
+use Rattle.theorems.specs.declared.Side.{Side}
 use Rattle.theorems.specs.declared.Pair.{Pair}
-use Rattle.theorems.proofs.Equal.{beq-true}
+use Rattle.theorems.proofs.Equal.{beq-true, same_source_lem, same-counter}
 use Rattle.linked.specs.declared.stage.Stage.{Stage}
 use Rattle.linked.specs.declared.chase.Moves.{Moves}
 use Rattle.linked.specs.Stage.{paired_on}
-use Rattle.linked.specs.Chase.{lowered_of, Above, Leaps}
+use Rattle.linked.specs.Chase.{lowered_of, with_terminals, Above, Leaps}
 use Rattle.linked.proofs.Stretch.{stretch}
+
+-- ---- what a test finds the same is equal: two sides; two pairs, their terminals apart
+pub same-sides : (x y : Side) (s : Bool) → s ≡ same_source x.source y.source → (beq x.pmf y.pmf && s) ≡ true → x ≡ y
+same-sides x y s is e =
+    let f = beq-true x.pmf y.pmf (left _ s e) in
+    let g = same_source_lem x.source y.source (sym is ∙ right (beq x.pmf y.pmf) s e) in
+    λ i. record { pmf = f i; source = g i }
+
+pub back-pairs : (x y : Pair) (a b s : Bool) → a ≡ same_counter x.one y.one → b ≡ same_counter x.two y.two → (s ≡ true → x.side ≡ y.side)
+    → (a && b && s) ≡ true → with_terminals x y.terminals ≡ y
+unfolding with_terminals
+back-pairs x y a b s p q r e =
+    let all = triple a b s e in
+    let f = same-counter x.one y.one (sym p ∙ all.0) in
+    let g = same-counter x.two y.two (sym q ∙ all.1) in
+    let h = r all.2 in
+    λ i. record { one = f i; two = g i; terminals = y.terminals; side = h i }
 
 -- ---- two that the derived test finds the same, field by field, are equal
 abbrev tested : Bool → List Bool → Bool

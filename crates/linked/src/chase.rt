@@ -7,7 +7,7 @@ ghost use Rattle.linked.specs.Chase.{lowered_of, with_terminals, Above, Leaps, H
 
 use crate::stage::Stage;
 use rules::Counter;
-use theorems::Pair;
+use theorems::{Pair, Side};
 
 // Some clocks of a run at once.
 #[derive(Clone, Copy)]
@@ -35,16 +35,22 @@ pub struct Moves {
     pub two: bool,
 }
 
+// Whether two sides are the same.
+// Stays: a run goes by `record::same_source` and `record::same_counter`, whose clauses docs/PROMISES.md has.
+fn same_side(x: Side, y: Side) -> bool
+    ensures { result ≡ true → x ≡ y }
+{
+    (x.pmf == y.pmf) & record::same_source(x.source, y.source)
+}
+
 // Whether two are the same, their terminals apart.
-// Stays: all but one field is compared, so the derived == has that field set first.
-#[tactic(auto, unfolding(crate::specs::Chase::with_terminals))]
+// Stays: likewise.
 fn came_back(x: Pair, y: Pair) -> bool
     ensures { result ≡ true → with_terminals x y.terminals ≡ y }
 {
-    Pair {
-        terminals: y.terminals,
-        ..x
-    } == y
+    record::same_counter(x.one, y.one)
+        & record::same_counter(x.two, y.two)
+        & same_side(x.side, y.side)
 }
 
 // Whether a counter has moved and may go on.

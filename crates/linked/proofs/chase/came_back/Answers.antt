@@ -1,8 +1,7 @@
-use mathlib.Core.Path.{sym, ◌∙◌}
-use Rattle.linked.specs.Chase.{with_terminals}
-use Rattle.linked.proofs.Leaping.{same-pairs}
+use Rattle.linked.proofs.Leaping.{back-pairs}
 use Rattle.linked.proofs.chase.came_back.Goals as goal
 
 pub returns : goal.returns
-unfolding with_terminals
-returns c = λ e. same-pairs _ _ (sym c.eq.ensures ∙ e)
+returns c =
+    back-pairs c.args.x c.args.y _ _ _
+    c.same_counter.ensures c.same_counter-2.ensures c.same_side.ensures
