@@ -4,7 +4,7 @@
 mod parting;
 
 use bench_lines::Compared;
-use chip::{Chip, Vetted};
+use chip::Chip;
 use image_files::{Held, Reported};
 use parting::Parting;
 use rules::Answer;
@@ -14,9 +14,9 @@ use std::rt::{Env, Files};
 use streams::BUFFER;
 
 // A device after an event, the model's answer to it, and that answer beside the board's.
-#[derive(Drop)]
+#[derive(Clone, Copy)]
 pub struct Turn {
-    pub device: Vetted,
+    pub device: Chip,
     pub model: Answer,
     pub compared: Option<Compared>,
 }
@@ -33,9 +33,11 @@ fn at_end<R: Read, E: Write>(input: &mut R, path: &[u8], report: &mut E) -> Resu
 }
 
 // What is said of a line of BOARD.
-fn say_line<E: Write>(report: &mut E, board: &[u8], line: u64, what: &str) {
+fn say_line<E: Write>(report: &mut E, board: &[u8], line: u64, what: &[u8]) {
     let _ = report.write_all(board);
-    let _ = writeln!(report, ": line {line} is {what}");
+    let _ = report.write_all(b": line ");
+    let _ = write!(report, "{line}");
+    let _ = report.write_all(what);
 }
 
 // From a device on: the trace of one input, and the board's answers of another. What has ended has to be read to its end.
@@ -51,19 +53,20 @@ fn agree_from<R: Read, S: Read, W: Write, E: Write>(
 ) -> Result<(), Reported> {
     match parting::part(d, events, answers, out) {
         Parting::Apart => {}
-        Parting::Unreadable(line) => say_line(report, board, line, "unreadable"),
+        Parting::Unreadable(line) => say_line(report, board, line, b" is unreadable\n"),
         Parting::NoAnswer(line) => {
             at_end(answers, board, report)?;
-            say_line(report, board, line, "missing, and the trace has one");
+            say_line(report, board, line, b" is missing, and the trace has one\n");
         }
         Parting::NoEvent(line) => {
             at_end(events, trace, report)?;
-            say_line(report, board, line, "one too many for the trace");
+            say_line(report, board, line, b" is one too many for the trace\n");
         }
         Parting::Ended(agreed) => {
             at_end(events, trace, report)?;
             at_end(answers, board, report)?;
-            let _ = writeln!(out, "{agreed} lines agree");
+            let _ = write!(out, "{agreed}");
+            let _ = out.write_all(b" lines agree\n");
         }
     }
     Ok(())

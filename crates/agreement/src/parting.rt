@@ -23,17 +23,19 @@ pub(crate) enum Parting {
     Ended(u64),
 }
 
-// Says a line of TRACE to the device, and compares the answer with a line of BOARD.
+// Says a line of TRACE to the device, and compares the answer with a line of BOARD: the device after it, which need not be asked again, is
+// the first.
 #[tactic(auto, unfolding(crate::specs::Turns::beside_of))]
-fn beside(d: &Vetted, event: Text, board: Text) -> Turn
-    ensures { result ≡ beside_of d.now event board }
+fn beside(d: &Vetted, event: Text, board: Text) -> (Vetted, Turn)
+    ensures { result ≡ ((beside_of d.now event board).device, beside_of d.now event board) }
 {
     let o = d.event(lines::event_of_line(event));
-    Turn {
-        device: o.device,
+    let t = Turn {
+        device: o.device.device(),
         model: o.answer,
         compared: bench_lines::compare_kept(o.answer, board),
-    }
+    };
+    (o.device, t)
 }
 
 // Where two files have come to side by side: the device, the places in what was read of them, and how many lines agree.
@@ -125,7 +127,9 @@ fn print_parted<W: Write>(
     model: Answer,
     differs: [bool; FIELDS],
 ) {
-    let _ = writeln!(out, "line            {line}");
+    let _ = out.write_all(b"line            ");
+    let _ = write!(out, "{line}");
+    let _ = out.write_all(b"\n");
     print_line(out, b"event           ", event);
     print_line(out, b"board           ", board);
     let _ = out.write_all(b"model           ");
@@ -147,7 +151,7 @@ fn agree<W: Write>(
     board: Text,
     out: &mut W,
 ) -> Result<Vetted, Parting> {
-    let t = beside(d, event, board);
+    let (after, t) = beside(d, event, board);
     let Some(compared) = t.compared else {
         return Err(Parting::Unreadable(line));
     };
@@ -156,7 +160,7 @@ fn agree<W: Write>(
         print_parted(out, line, before, event, board, t.model, compared.differs);
         return Err(Parting::Apart);
     }
-    Ok(t.device)
+    Ok(after)
 }
 
 // The lines of two inputs side by side, up to the first that does not agree, which is printed, or that one of them has not. (A

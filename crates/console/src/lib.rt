@@ -26,13 +26,20 @@ pub fn print<W: Write>(out: &mut W, t: Text) -> io::Result<()>
     }
 }
 
+// Why answers could not be written, and the session after them.
+#[derive(Drop)]
+struct Unwritten {
+    session: Session,
+    error: io::Error,
+}
+
 // Answers the lines of a piece, and writes the answers out whenever the buffer may be full, and at the end of the piece.
 fn answer_piece<W: Write>(
     s: Session,
     piece: &[u8],
     out: &mut [u8],
     answers: &mut W,
-) -> io::Result<Session>
+) -> Result<Session, Unwritten>
     requires { text_room ≤ length out.old }
     ensures { IfOk result (λ t. (t ≡ after_of s piece.now) × Appends (W.contents answers.old) (W.contents answers.new) (answers_in s piece.now)) }
 {
@@ -41,9 +48,12 @@ fn answer_piece<W: Write>(
     // Stays: a turn goes on by as many bytes as had room for their answers.
     while at < piece.len() {
         let f = session::feed(t, piece, at, out);
-        answers.write_all(&out[..f.len])?;
         t = f.session;
         at = f.next;
+        match answers.write_all(&out[..f.len]) {
+            Ok(()) => {}
+            Err(error) => return Err(Unwritten { session: t, error }),
+        }
     }
     Ok(t)
 }
@@ -56,7 +66,7 @@ fn answer_all<R: Read, W: Write>(
     read: &mut [u8],
     out: &mut [u8],
     answers: &mut W,
-) -> io::Result<Session>
+) -> Result<Session, Unwritten>
     requires { text_room ≤ length out.old }
     ensures { IfOk result (λ t. Answered s t (R.remaining input.old) (R.remaining input.new) (W.contents answers.old) (W.contents answers.new)) }
 {
@@ -81,12 +91,18 @@ fn answer_last<W: Write>(s: Session, answers: &mut W) -> io::Result<Chip>
     Ok(a.device)
 }
 
-// Answers the lines of an input as they arrive, from a device on: the device after them.
+// Answers the lines of an input as they arrive, from a device on: the device after them. Where answers cannot be written, what is kept of a
+// last line is answered all the same.
 pub fn run<R: Read, W: Write>(d: Chip, input: &mut R, answers: &mut W) -> io::Result<Chip>
     ensures { IfOk result (λ e. Printed d e (R.remaining input.old) (R.remaining input.new) (W.contents answers.old) (W.contents answers.new)) }
 {
     let mut read = [0; LARGE_BUFFER];
     let mut out = [0; LARGE_BUFFER];
-    let s = answer_all(session::start(d), input, &mut read, &mut out, answers)?;
-    answer_last(s, answers)
+    match answer_all(session::start(d), input, &mut read, &mut out, answers) {
+        Ok(s) => answer_last(s, answers),
+        Err(unwritten) => {
+            let _ = answer_last(unwritten.session, answers);
+            Err(unwritten.error)
+        }
+    }
 }

@@ -265,24 +265,30 @@ fn rename<F: Files>(files: &F, from: &[u8], to: &[u8]) -> io::Result<()> {
     fs::rename(files, name_of(from)?, name_of(to)?)
 }
 
-// Writes an image into a new file, and gives the file another name.
-fn fill<F: Files>(
+// Writes an image into a new file, and gives the file another name; where that fails, a line says so.
+fn fill<F: Files, W: Write>(
     files: &F,
     made: F::File,
     name: &[u8],
     path: &[u8],
     image: &[u8],
-) -> io::Result<()> {
+    report: &mut W,
+) -> Result<(), Reported> {
     let mut file = made;
-    write_out(&mut file, image)?;
+    told(write_out(&mut file, image), true, path, report)?;
     drop(file);
-    rename(files, name, path)
+    told(rename(files, name, path), true, path, report)
 }
 
-// Puts an image into a new file, and gives that file the name.
-fn replace<F: Files>(files: &F, path: &[u8], image: &[u8]) -> io::Result<()> {
-    let (file, name) = create_beside(files, path)?;
-    let filled = fill(files, file, name.as_slice(), path, image);
+// Puts an image into a new file, and gives that file the name. The line about what failed comes before the new file is taken away.
+fn replace<F: Files, W: Write>(
+    files: &F,
+    path: &[u8],
+    image: &[u8],
+    report: &mut W,
+) -> Result<(), Reported> {
+    let (file, name) = told(create_beside(files, path), true, path, report)?;
+    let filled = fill(files, file, name.as_slice(), path, image, report);
     if filled.is_err() {
         remove(files, name);
     }
@@ -307,12 +313,7 @@ pub fn keep<F: Files, W: Write>(
         );
         return Err(Reported);
     }
-    told(
-        replace(files, path, &image[..d.image_len()]),
-        true,
-        path,
-        report,
-    )?;
+    replace(files, path, &image[..d.image_len()], report)?;
     if name_out(files, path).is_err() {
         let _ = report.write_all(path);
         let _ = report.write_all(b": saved, but its folder cannot be written out\n");

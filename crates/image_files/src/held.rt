@@ -66,13 +66,10 @@ fn show_all<W: Write>(d: Device, out: &mut W) {
 
 // A device in words: of a Z8536 its pointer, then its core.
 pub fn show_device<W: Write>(c: Chip, out: &mut W) {
-    match c {
-        Chip::Z8036(d) => show_all(d, out),
-        Chip::Z8536(z) => {
-            let _ = print(out, words::pointer_line(z.pointer, z.pointed));
-            show_all(z.core, out);
-        }
+    if let Chip::Z8536(z) = c {
+        let _ = print(out, words::pointer_line(z.pointer, z.pointed));
     }
+    show_all(c.core(), out);
 }
 
 fn show_ctc<W: Write>(d: Ctc, out: &mut W) {

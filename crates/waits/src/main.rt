@@ -40,8 +40,12 @@ fn answer_all<R: Read, W: Write>(input: &mut R, out: &mut W) -> Measure {
     m
 }
 
+// A row of the table. Each number is tried, also after one that could not be written.
 fn print_row<W: Write>(out: &mut W, row: [u64; 4]) {
-    let _ = writeln!(out, "{} {} {} {}", row[0], row[1], row[2], row[3]);
+    for (i, n) in row.iter().enumerate() {
+        let _ = write!(out, "{n}");
+        let _ = out.write_all(if i < 3 { b" " } else { b"\n" });
+    }
 }
 
 fn main(rt: HostRuntime) {

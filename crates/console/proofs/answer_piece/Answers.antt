@@ -28,7 +28,7 @@ loop-at-preserved g c =
     let u = g.W.Write.contents c.args.answers.now in
     let v = g.W.Write.contents l.answers in
     let w = g.W.Write.contents c.write_all.new.self in
-    let writes = c.in_ok-write_all.ensures.bytes in (
+    let writes = c.in-Ok.ensures.bytes in (
       search rules,
       said-short c.args.s l.t c.args.piece.now l.out f.new.out l.at f.result u v w i.1 i.2 i.3 f.ensures.value f.ensures.out_after writes,
       said-after c.args.s l.t c.args.piece.now l.out f.new.out l.at f.result u v w i.1 i.2 i.3 f.ensures.value f.ensures.out_after writes,

@@ -11,9 +11,9 @@ use Rattle.console.specs.Console.{Printed}
 use Rattle.console.proofs.Said.{printed-is}
 use Rattle.console.proofs.run.Goals as goal
 
-pub returns : goal.returns
-returns g c =
-    let a = c.in_ok-s.ensures in
+pub returns-in-Ok : goal.returns-in-Ok
+returns-in-Ok g c =
+    let a = c.in-Ok.ensures in
     let d = c.args.d in
     let s = start_of d in
     let r = g.R.Read.remaining c.args.input.now in
@@ -23,7 +23,7 @@ returns g c =
     let w = g.W.Write.contents c.answer_last.new.answers in
     let begun = a.2 ∙ ap (λ (x : Session). after_of x a.0) c.start.ensures in
     let answers = subst (λ (x : Session). Appends u v (answers_in x a.0)) c.start.ensures a.3 in
-    IfOk-weaker c.answer_last.result (λ (e : Chip). (e ≡ device_last c.in_ok-s.s) × Appends v w (answers_last c.in_ok-s.s))
+    IfOk-weaker c.answer_last.result (λ (e : Chip). (e ≡ device_last c.in-Ok.s) × Appends v w (answers_last c.in-Ok.s))
     (λ (e : Chip). Printed d e r r' u w)
     (λ e l. (
       a.0,
