@@ -59,11 +59,12 @@ fn fifth_len(version: u8) -> usize
 
 // Contents, and behind them the bodies of a record.
 #[tactic(auto, unfolding(bodies::specs::Written::registers_body, bodies::specs::Written::counts_body, bodies::specs::Written::pins_body, bodies::specs::Written::lines_body, bodies::specs::Written::transfers_body))]
-pub(crate) fn write_by(contents: &[u8], d: Device, buf: &mut [u8])
+pub(crate) fn write_by<const N: usize>(contents: &[u8; N], d: Device, buf: &mut [u8])
     requires { length contents.now + bodies_len d.version ≤ length buf.old }
     ensures { buf.new ≡ laid_by contents.now d
         ++ drop (length contents.now + bodies_len d.version) buf.old }
 {
+    let contents = contents.as_slice();
     let n = contents.len();
     let b = image_out::bodies(d);
     basics::lay(buf, 0, contents);

@@ -48,13 +48,13 @@ pub write_by-requires : goal.write_by-requires
 write_by-requires c =
     let a = c.args in
     let room = subst (λ (n : ℕ). n ≤ length a.buf.now) c.image_len.ensures c.if-buf-image_len.false in
-    subst (λ (n : ℕ). n ≤ length a.buf.now) (sym (size-1 a.d c.if-d-eq1.true)) room
+    (omega arith, subst (λ (n : ℕ). n ≤ length a.buf.now) (sym (size-1 a.d c.if-d-eq1.true)) room)
 
 pub write_by-requires-else-d-eq1 : goal.write_by-requires-else-d-eq1
 write_by-requires-else-d-eq1 c =
     let a = c.args in
     let room = subst (λ (n : ℕ). n ≤ length a.buf.now) c.image_len.ensures c.if-buf-image_len.false in
-    subst (λ (n : ℕ). n ≤ length a.buf.now) (sym (size-2 a.d c.if-d-eq1.false)) room
+    (omega arith, subst (λ (n : ℕ). n ≤ length a.buf.now) (sym (size-2 a.d c.if-d-eq1.false)) room)
 
 pub returns-then-d-eq1 : goal.returns-then-d-eq1
 unfolding code_in refusal_number

@@ -1,6 +1,6 @@
 -- with the fifth body, and of version 1 without it
 use Prim.Native.Nat.{ℕ, ◌+◌, ◌≤◌}
-use mathlib.Core.Path.{◌≡◌, refl, ap, subst, ◌∙◌}
+use mathlib.Core.Path.{◌≡◌, refl, sym, ap, subst, ◌∙◌}
 use mathlib.Core.List.{List, ◌++◌, append-nil}
 use native.Mathlib.Omega.{arith}
 use borrow.Author.Tests.{eq-eqb, ne_eqb}
@@ -33,36 +33,42 @@ without contents d e old = simp (old, append-nil)
 
 pub returns-then-d-ne1 : goal.returns-then-d-ne1
 unfolding registers_body counts_body pins_body lines_body transfers_body
-returns-then-d-ne1 c =
+returns-then-d-ne1 g c =
     let new = ne_eqb _ _ c.if-d-ne1.true in
     let a = c.args in
-    let room = fits a.d.version _ _ new c.requires in
-    let n = length a.contents.now in
+    let x = c.as_slice-contents.result.now in
+    let same = c.as_slice-contents.ensures in
+    let room = fits a.d.version _ _ new (subst (λ (y : List ℕ). length y + bodies_len a.d.version ≤ length a.buf.now) (sym same) c.requires) in
+    let n = length x in
     let b = c.bodies-b.result in
     let is = c.bodies-b.ensures in
-    let l1 = next {n = 0} a.contents.now n n refl (omega arith) (omega (arith, room)) (none a.buf.now) c.lay.ensures.0 in
+    let l1 = next {n = 0} x n n refl (omega arith) (omega (arith, room)) (none a.buf.now) c.lay.ensures.0 in
     let l2 = next b.registers 48 (n + 48) (ap (λ (x : Bodies). length x.registers) is ∙ registers-length a.d 0 48) refl (omega (arith, room)) l1 c.lay-2.ensures.0 in
     let l3 = next b.counts 9 (n + 57) (ap (λ (x : Bodies). length x.counts) is) (omega arith) (omega (arith, room)) l2 c.lay-3.ensures.0 in
     let l4 = next b.pins 7 (n + 64) (ap (λ (x : Bodies). length x.pins) is) (omega arith) (omega (arith, room)) l3 c.lay-4.ensures.0 in
     let l5 = next b.lines 2 (n + 66) (ap (λ (x : Bodies). length x.lines) is) (omega arith) (omega (arith, room)) l4 c.lay-5.ensures.0 in
     let l6 = next b.transfers 8 (n + 74) (ap (λ (x : Bodies). length x.transfers) is) (omega arith) (omega (arith, room)) l5 c.lay-then-d-ne1.ensures.0 in
     let rest = drop (n + 74) a.buf.now in
-    l6.holds ∙ ap (λ (x : Bodies). a.contents.now ++ x.registers ++ x.counts ++ x.pins ++ x.lines ++ x.transfers ++ rest) is
-    ∙ with-fifth a.contents.now a.d a.buf.now new
+    subst (λ (y : List ℕ). c.lay-then-d-ne1.new.buf ≡ laid_by y a.d ++ drop (length y + bodies_len a.d.version) a.buf.now) same
+    (l6.holds ∙ ap (λ (b : Bodies). x ++ b.registers ++ b.counts ++ b.pins ++ b.lines ++ b.transfers ++ rest) is
+    ∙ with-fifth x a.d a.buf.now new)
 
 pub returns-else-d-ne1 : goal.returns-else-d-ne1
 unfolding registers_body counts_body pins_body lines_body transfers_body
-returns-else-d-ne1 c =
+returns-else-d-ne1 g c =
     let a = c.args in
-    let room = c.requires in
-    let n = length a.contents.now in
+    let x = c.as_slice-contents.result.now in
+    let same = c.as_slice-contents.ensures in
+    let room = subst (λ (y : List ℕ). length y + bodies_len a.d.version ≤ length a.buf.now) (sym same) c.requires in
+    let n = length x in
     let b = c.bodies-b.result in
     let is = c.bodies-b.ensures in
-    let l1 = next {n = 0} a.contents.now n n refl (omega arith) (omega (arith, room)) (none a.buf.now) c.lay.ensures.0 in
+    let l1 = next {n = 0} x n n refl (omega arith) (omega (arith, room)) (none a.buf.now) c.lay.ensures.0 in
     let l2 = next b.registers 48 (n + 48) (ap (λ (x : Bodies). length x.registers) is ∙ registers-length a.d 0 48) refl (omega (arith, room)) l1 c.lay-2.ensures.0 in
     let l3 = next b.counts 9 (n + 57) (ap (λ (x : Bodies). length x.counts) is) (omega arith) (omega (arith, room)) l2 c.lay-3.ensures.0 in
     let l4 = next b.pins 7 (n + 64) (ap (λ (x : Bodies). length x.pins) is) (omega arith) (omega (arith, room)) l3 c.lay-4.ensures.0 in
     let l5 = next b.lines 2 (n + 66) (ap (λ (x : Bodies). length x.lines) is) (omega arith) (omega (arith, room)) l4 c.lay-5.ensures.0 in
     let rest = drop (n + 66) a.buf.now in
-    l5.holds ∙ ap (λ (x : Bodies). a.contents.now ++ x.registers ++ x.counts ++ x.pins ++ x.lines ++ rest) is
-    ∙ without a.contents.now a.d a.buf.now (eq-eqb _ _ c.if-d-ne1.false)
+    subst (λ (y : List ℕ). c.lay-5.new.buf ≡ laid_by y a.d ++ drop (length y + bodies_len a.d.version) a.buf.now) same
+    (l5.holds ∙ ap (λ (b : Bodies). x ++ b.registers ++ b.counts ++ b.pins ++ b.lines ++ rest) is
+    ∙ without x a.d a.buf.now (eq-eqb _ _ c.if-d-ne1.false))

@@ -13,7 +13,7 @@ use Rattle.image.proofs.pointed.write_z8536.Goals as goal
 pub write_by-requires : goal.write_by-requires
 write_by-requires c =
     let a = c.args in
-    subst (λ (n : ℕ). n ≤ length a.buf.now) (sym (size-3 a.z.core c.requires.1)) (omega (arith, c.requires.0))
+    (omega arith, subst (λ (n : ℕ). n ≤ length a.buf.now) (sym (size-3 a.z.core c.requires.1)) (omega (arith, c.requires.0)))
 
 pub returns : goal.returns
 unfolding pointer_body
