@@ -75,11 +75,15 @@ fn print_line<W: Write>(out: &mut W, l: Line) {
     let mut buf = [0; Z8536::IMAGE];
     if l.z8536 {
         let r = image::restore_z8536(b);
-        let _ = image::save_z8536(r.device, &mut buf);
+        if r.code == 0 {
+            let _ = image::save_z8536(r.device, &mut buf);
+        }
         print_code(out, r.code, &buf);
     } else {
         let r = image::restore(b);
-        let _ = image::save(r.device, &mut buf);
+        if r.code == 0 {
+            let _ = image::save(r.device, &mut buf);
+        }
         let n = Device::image_len(r.device.version).min(buf.len());
         print_code(out, r.code, &buf[..n]);
     }

@@ -35,18 +35,25 @@ impl Text {
         }
     }
 
-    // One byte more.
+    // One byte more, where the text stands.
     #[tactic(auto, unfolding(crate::specs::Kept::pushed))]
+    fn put(&mut self, b: u8)
+        ensures { self.new ≡ pushed self.old b }
+    {
+        if self.len < ROOM {
+            self.bytes[self.len] = b;
+            self.len += 1;
+        } else {
+            self.len = ROOM + 1;
+        }
+    }
+
+    // One byte more.
     pub fn push(self, b: u8) -> Text
         ensures { result ≡ pushed self b }
     {
         let mut t = self;
-        if t.len < ROOM {
-            t.bytes[t.len] = b;
-            t.len += 1;
-        } else {
-            t.len = ROOM + 1;
-        }
+        t.put(b);
         t
     }
 
@@ -57,7 +64,7 @@ impl Text {
     {
         let mut t = self;
         for b in w {
-            t = t.push(*b);
+            t.put(*b);
         }
         t
     }
