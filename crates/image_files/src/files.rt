@@ -185,12 +185,12 @@ fn create<F: Files>(files: &F, path: &[u8]) -> io::Result<F::File> {
         .open(files, name_of(path)?)
 }
 
-// Makes a new file beside another, by the first name that is free.
-fn create_beside<F: Files>(files: &F, path: &[u8]) -> io::Result<(F::File, Name)> {
+// Makes a new file beside another, by the first name that is free, which is put into `name`.
+fn create_beside<F: Files>(files: &F, path: &[u8], name: &mut Name) -> io::Result<F::File> {
     for turn in 0..NAMES {
-        let name = Name::beside(path, turn)?;
+        *name = Name::beside(path, turn)?;
         match create(files, name.as_slice()) {
-            Ok(file) => return Ok((file, name)),
+            Ok(file) => return Ok(file),
             Err(error) => {
                 if error.kind() != ErrorKind::AlreadyExists {
                     return Err(error);
@@ -202,7 +202,7 @@ fn create_beside<F: Files>(files: &F, path: &[u8]) -> io::Result<(F::File, Name)
 }
 
 // Takes a file away that was made beside another. Nothing can be done where the system does not let it go.
-fn remove<F: Files>(files: &F, name: Name) {
+fn remove<F: Files>(files: &F, name: &Name) {
     if let Ok(name) = name_of(name.as_slice()) {
         let _ = fs::remove_file(files, name);
     }
@@ -227,9 +227,10 @@ fn no_folder<F: Files>(files: &F, path: &[u8]) -> io::Result<()> {
 // That a file can be made beside this one, which is no folder; it is taken away again.
 fn made_and_gone<F: Files>(files: &F, path: &[u8]) -> io::Result<()> {
     no_folder(files, path)?;
-    let (file, name) = create_beside(files, path)?;
+    let mut name = Name::new();
+    let file = create_beside(files, path, &mut name)?;
     drop(file);
-    remove(files, name);
+    remove(files, &name);
     Ok(())
 }
 
@@ -287,10 +288,12 @@ fn replace<F: Files, W: Write>(
     image: &[u8],
     report: &mut W,
 ) -> Result<(), Reported> {
-    let (file, name) = told(create_beside(files, path), true, path, report)?;
+    let mut name = Name::new();
+    let made = create_beside(files, path, &mut name);
+    let file = told(made, true, path, report)?;
     let filled = fill(files, file, name.as_slice(), path, image, report);
     if filled.is_err() {
-        remove(files, name);
+        remove(files, &name);
     }
     filled
 }

@@ -5,8 +5,9 @@ use std::io;
 use std::io::ErrorKind;
 use streams::BUFFER;
 
-// Stays: a buffer with its length, since no heap is used; the invariant ties the two.
-#[derive(Clone, Copy)]
+// Stays: a buffer with its length, since no heap is used; the invariant ties the two. It is lent and not handed on: by value a night took more
+// stack.
+#[derive(Drop)]
 pub(crate) struct Name {
     bytes: [u8; BUFFER],
     len: usize,
@@ -25,6 +26,14 @@ fn letters(turn: u32) -> [u8; 6] {
 }
 
 impl Name {
+    // No name yet.
+    pub(crate) fn new() -> Name {
+        Name {
+            bytes: [0; BUFFER],
+            len: 0,
+        }
+    }
+
     // One of the names beside another, unless it is too long.
     pub(crate) fn beside(path: &[u8], turn: u32) -> io::Result<Name> {
         let n = path.len();
